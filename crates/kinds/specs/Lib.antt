@@ -1,0 +1,4 @@
+pub mod Alphabet
+pub mod AxleMarks
+pub mod Bytes
+pub mod Readings

@@ -1,0 +1,8 @@
+// Element kinds, readings, and their meaning: what the engine is generic over.
+pub mod backward;
+pub mod byte;
+pub mod held;
+pub mod kind;
+pub mod mark;
+pub mod marks;
+pub mod reading;

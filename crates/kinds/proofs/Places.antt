@@ -1,8 +1,9 @@
 -- What stands at a place of a list that is reversed, mapped or cut.
 use mathlib.Core.Path.{_≡_, refl, sym, ap, _∙_}
-use mathlib.Core.List.{List, [], _∷_, map, reverse}
+use mathlib.Core.List.{List, [], _∷_, _++_, map, reverse}
 use mathlib.Core.Logic.{⊎-elim}
-use Prim.Native.Nat.{ℕ, zero, suc, min, _-_, _≤_, _<_}
+use Prim.Native.Nat.{ℕ, zero, suc, min, _+_, _-_, _≤_, _<_}
+use native.Mathlib.Numerals.{add-one}
 use native.Mathlib.Omega.{arith}
 use denote.Ref.{RefT, now}
 use lib.ListN.{length, take, length-reverse}
@@ -44,3 +45,18 @@ take-min n xs =
     (λ h. let m : min (length xs) n ≡ length xs = omega arith in ap (λ k. take k xs) m ∙ take-all (length xs) xs (omega arith) ∙ sym (take-all n xs (omega arith)))
     (λ h. let m : min (length xs) n ≡ n = omega arith in ap (λ k. take k xs) m)
     (cases-lt (length xs) n)
+
+-- one element more of a list, as a place gives it
+pub take-nth : {X : Type 0} (xs : List X) (i : ℕ) (x : X) → nth xs i ≡ Some x → take (i + 1) xs ≡ take i xs ++ x ∷ []
+take-nth xs i x e = ap (λ k. take k xs) (add-one i) ∙ go xs i e
+  where
+    go : {X : Type 0} {x : X} (xs : List X) (i : ℕ) → nth xs i ≡ Some x → take (suc i) xs ≡ take i xs ++ x ∷ []
+    go [] i e = grind arith
+    go (y ∷ ys) zero e = cc
+    go (y ∷ ys) (suc i) e = ap (λ l. y ∷ l) (go ys i e)
+
+-- there is an element at each place of a list
+pub nth-none : {X : Type 0} (xs : List X) (i : ℕ) → nth xs i ≡ None → length xs ≤ i
+nth-none [] i e = omega arith
+nth-none (y ∷ ys) zero e = grind arith
+nth-none (y ∷ ys) (suc i) e = omega (arith, nth-none ys i e)

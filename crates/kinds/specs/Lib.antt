@@ -2,3 +2,4 @@ pub mod Alphabet
 pub mod AxleMarks
 pub mod Bytes
 pub mod Readings
+pub mod Spelling

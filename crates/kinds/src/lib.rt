@@ -6,3 +6,4 @@ pub mod kind;
 pub mod mark;
 pub mod marks;
 pub mod reading;
+pub mod spelling;

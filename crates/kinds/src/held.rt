@@ -21,7 +21,9 @@ impl<'a, K: Kind> Held<'a, K> {
         ensures { λ r. ⌜ now (r .items) ≡ shown (now (items .entry)) ⌝ }
     {
         let len = items.len().min(LONGEST);
-        Held { items: &items[0..len] }
+        Held {
+            items: &items[0..len],
+        }
     }
 }
 

@@ -1,23 +1,23 @@
 // The commands, each from a line's words to its answer.
 use crate::complaint::Complaint;
+use crate::complaint::ComplaintFromAlloc;
+use crate::complaint::ComplaintFromSpelling;
 use kinds::backward::Backward;
+use kinds::backward::BackwardReading;
 use kinds::byte::Byte;
+use kinds::byte::kind::ByteKind;
 use kinds::held::Held;
+use kinds::held::HeldReading;
 use kinds::kind::Kind;
 use kinds::mark::Mark;
+use kinds::mark::kind::MarkKind;
 use kinds::marks::Marks;
+use kinds::marks::MarksReading;
 use kinds::reading::Reading;
 use kinds::reading::to_vec;
 use kinds::spelling::reader::read_elements;
 use std::alloc::AllocError;
 use std::alloc::Global;
-use crate::complaint::ComplaintFromAlloc;
-use crate::complaint::ComplaintFromSpelling;
-use kinds::backward::BackwardReading;
-use kinds::byte::kind::ByteKind;
-use kinds::held::HeldReading;
-use kinds::mark::kind::MarkKind;
-use kinds::marks::MarksReading;
 
 pub fn answer(heap: Global, line: &str) -> Result<String, Complaint> {
     if line.is_empty() {

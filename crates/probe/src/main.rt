@@ -8,9 +8,9 @@ use std::io::BufReader;
 mod answers;
 mod complaint;
 
+use crate::complaint::ComplaintDisplay;
 use answers::answer;
 use complaint::Complaint;
-use crate::complaint::ComplaintDisplay;
 
 // A line without its end, as text.
 fn text_of(line: &[u8]) -> Result<&str, Complaint> {

@@ -7,11 +7,23 @@ use crate::kind::Kind;
 use crate::mark::Band;
 use crate::mark::Mark;
 
+// How many bands there are.
+const BANDS: u8 = 10;
+
+// The bytes of a strip reading that stand for an axle on single tyres, and for one on dual tyres: S0 to S9, D0 to D9.
+const SINGLE_FIRST: u8 = 0x10;
+
+const SINGLE_LAST: u8 = 0x19;
+
+const DUAL_FIRST: u8 = 0x20;
+
+const DUAL_LAST: u8 = 0x29;
+
 impl Band {
     pub fn new(digit: u8) -> Option<Band>
         ensures { λ r. ⌜ r ≡ banded digit ⌝ }
     {
-        if digit < 10 {
+        if digit < BANDS {
             Some(Band { digit })
         } else {
             None
@@ -31,10 +43,16 @@ impl Mark {
         ensures { λ r. ⌜ r ≡ mark-of byte ⌝ }
     {
         let value = byte.value();
-        match value {
-            0x10..=0x19 => Mark::Single(Band { digit: value - 0x10 }),
-            0x20..=0x29 => Mark::Dual(Band { digit: value - 0x20 }),
-            _ => Mark::Unread,
+        if SINGLE_FIRST <= value && value <= SINGLE_LAST {
+            Mark::Single(Band {
+                digit: value - SINGLE_FIRST,
+            })
+        } else if DUAL_FIRST <= value && value <= DUAL_LAST {
+            Mark::Dual(Band {
+                digit: value - DUAL_FIRST,
+            })
+        } else {
+            Mark::Unread
         }
     }
 

@@ -5,5 +5,5 @@ use Rattle.std.proofs.shelf.Ways.{tells}
 use Rattle.kinds.proofs.Elements.{is-band}
 use Rattle.kinds.proofs.mark.Band.new.Needs as need
 
-pub returns-then-digit-lt10 : need.returns-then-digit-lt10
-returns-then-digit-lt10 c = ap Some (is-band _ _ refl) ∙ grind (arith, tells)
+pub returns-then-digit-lt-BANDS : need.returns-then-digit-lt-BANDS
+returns-then-digit-lt-BANDS c = ap Some (is-band _ _ refl) ∙ grind (arith, tells)

@@ -1,3 +1,4 @@
 pub mod Elements
 pub mod Places
 pub mod Spellings
+pub mod Vectors

@@ -5,5 +5,6 @@ pub mod held;
 pub mod kind;
 pub mod mark;
 pub mod marks;
+pub mod pattern;
 pub mod reading;
 pub mod spelling;

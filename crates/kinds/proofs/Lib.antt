@@ -1,4 +1,6 @@
+pub mod Decisions
 pub mod Elements
+pub mod Mirrors
 pub mod Places
 pub mod Spellings
 pub mod Vectors

@@ -14,7 +14,7 @@ use Rattle.std.proofs.shelf.Equals.{compares-decides}
 use Rattle.std.proofs.shelf.Tests.{false≢true, leb-true, le-leb}
 use Rattle.std.proofs.shelf.Ways.{decides-eqb, decides-ltb, decides-like, decides-not, decides-and, decides-or}
 use Rattle.kinds.specs.Alphabet.{within}
-use Rattle.kinds.specs.Patterns.{Item, literal, any, group, range, gap, compared, UpTo, Between, Among, AtMost, Matches, Cut, Allowed, Placement}
+use Rattle.kinds.specs.Patterns.{Item, literal, any, group, range, other, gap, compared, UpTo, Between, Among, AtMost, Matches, Cut, Allowed, Placement}
 use Rattle.kinds.specs.Patterns.{same, up-to, between, among, at-most, matches, split, cuts, before-allowed, after-allowed, hits, Hits-exactly}
 use Rattle.kinds.specs.declared.pattern.Direction.{Direction}
 use Rattle.kinds.specs.declared.pattern.Reference.{Reference}
@@ -64,6 +64,7 @@ matches-decides (group runs) xs = among-decides xs runs
 matches-decides (range d true low high) xs = decides-and _ _ (decides-eqb (length xs) (length low)) (between-decides d low high xs)
 matches-decides (range d false low high) xs =
     decides-and _ _ (decides-eqb (length xs) (length low)) (decides-not _ (between-decides d low high xs))
+matches-decides (other run) xs = decides-and _ _ (decides-eqb (length xs) (length run)) (decides-not _ (same-decides xs run))
 matches-decides (gap least most) xs = decides-and _ _ (decides-leb least (length xs)) (at-most-decides most (length xs))
 
 -- a list is cut in two, P of its front and Q of its rest

@@ -7,7 +7,7 @@ use Prim.Native.Nat.{ℕ, _≤_}
 use lib.ListN.{length}
 use Rattle.std.proofs.shelf.Lists.{append-nil, append-assoc, reverse-append, reverse-reverse, length-reverse}
 use Rattle.std.proofs.shelf.Ways.{decides-like, same-from-decides}
-use Rattle.kinds.specs.Patterns.{Item, literal, any, group, range, gap, compared, Between, Among, AtMost, Matches, Cut, Allowed, Placement, UpTo}
+use Rattle.kinds.specs.Patterns.{Item, literal, any, group, range, other, gap, compared, Between, Among, AtMost, Matches, Cut, Allowed, Placement, UpTo}
 use Rattle.kinds.specs.Patterns.{hits, turned, reversed-runs, mirrored-item, mirrored, turned-reference, Mirrored-alike}
 use Rattle.kinds.specs.declared.pattern.Direction.{Direction}
 use Rattle.kinds.specs.declared.pattern.Direction.the-variants.{FirstOn, LastOn}
@@ -39,6 +39,7 @@ mirrored-item-twice (literal c) = refl
 mirrored-item-twice any = refl
 mirrored-item-twice (group runs) = ap group (reversed-runs-twice runs)
 mirrored-item-twice (range d inside low high) = λ i. range (turned-twice d i) inside (reverse-reverse low i) (reverse-reverse high i)
+mirrored-item-twice (other run) = ap other (reverse-reverse run)
 mirrored-item-twice (gap least most) = refl
 
 -- the parts of a mirrored pattern change places
@@ -103,6 +104,8 @@ matches-mirrored any xs e = length-reverse xs ∙ e
 matches-mirrored (group runs) xs h = among-reversed xs runs h
 matches-mirrored (range d true low high) xs h = (same-length xs low (h .0), transport⁻¹ (between-turned d low high xs) (h .1))
 matches-mirrored (range d false low high) xs h = (same-length xs low (h .0), λ b. h .1 (transport (between-turned d low high xs) b))
+matches-mirrored (other run) xs h =
+    (same-length xs run (h .0), λ e. h .1 (sym (reverse-reverse xs) ∙ ap reverse e ∙ reverse-reverse run))
 matches-mirrored (gap least most) xs h = subst (λ n. (least ≤ n) × AtMost most n) (sym (length-reverse xs)) h
 
 -- what the items cut, the mirrored items cut reversed

@@ -8,7 +8,7 @@ use lib.Chars.{codes}
 use Rattle.std.specs.declared.result.Result.the-variants.{Ok, Err}
 use Rattle.kinds.specs.Bytes.{byte-alphabet}
 use Rattle.kinds.specs.Patterns.{Item, hits, literal, any, group, range, other, gap}
-use Rattle.kinds.specs.Reader.{items-of}
+use Rattle.kinds.specs.Reader.{items-of, some-below}
 use Rattle.kinds.specs.declared.pattern.Direction.the-variants.{FirstOn}
 use Rattle.kinds.specs.declared.pattern.Reference.the-variants.{Front, Anywhere}
 
@@ -28,18 +28,23 @@ two-gaps-miss = refl
 
 -- where texts of bytes stop
 star-at-the-end : items-of byte-alphabet (codes "41*") ≡ Err 3
+unfolding some-below
 star-at-the-end = refl
 
 half-a-pair : items-of byte-alphabet (codes "4{") ≡ Err 1
+unfolding some-below
 half-a-pair = refl
 
 one-alternative : items-of byte-alphabet (codes "(41)") ≡ Err 3
+unfolding some-below
 one-alternative = refl
 
 five-digits : items-of byte-alphabet (codes "41{12345}42") ≡ Err 7
+unfolding some-below
 five-digits = refl
 
 gap-first : items-of byte-alphabet (codes "*41") ≡ Err 0
+unfolding some-below
 gap-first = refl
 
 all-items : items-of byte-alphabet (codes "41??(42|4344)[45:46][!47]*{5-4}48") ≡ Ok (
@@ -52,4 +57,5 @@ all-items : items-of byte-alphabet (codes "41??(42|4344)[45:46][!47]*{5-4}48") �
     ∷ record { place = 26; item = gap 5 (Some 4) }
     ∷ record { place = 31; item = literal 0x48 }
     ∷ [])
+unfolding some-below
 all-items = refl

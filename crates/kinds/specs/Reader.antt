@@ -47,7 +47,8 @@ pub data Next : Type 0 where
   goes-on : State → Next
   complete : Item → Next
 
-abbrev some-below : (ℕ → Bool) → ℕ → Bool
+-- a test passes at some number below another
+unfoldable pub some-below : (ℕ → Bool) → ℕ → Bool
 some-below p zero = false
 some-below p (suc n) = cond (p n) true (some-below p n)
 

@@ -1,0 +1,4 @@
+pub mod Classes
+pub mod Gaps
+pub mod Machine
+pub mod Scans

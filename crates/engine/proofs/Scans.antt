@@ -1,0 +1,53 @@
+-- What one turn of the lexer's loops keeps.
+use mathlib.Core.Path.{_≡_, refl, sym, ap, _∙_}
+use mathlib.Core.Bool.{Bool, true, false, cond}
+use mathlib.Core.List.{List, [], _∷_, _++_}
+use mathlib.Core.Logic.{⊎-elim}
+use Prim.Native.Nat.{ℕ, zero, suc, _+_, _-_, _*_, _^_, _≤_, _<_}
+use native.Mathlib.Nat.{le-refl}
+use native.Mathlib.Numerals.{add-one}
+use native.Mathlib.Omega.{arith}
+use lib.ListN.{length, getD, take, drop, length-drop}
+use lib.Seq.{getD-drop}
+use Rattle.std.proofs.shelf.Lists.{take-more}
+use Rattle.std.proofs.shelf.Tests.{cases-order}
+use Rattle.kinds.specs.Alphabet.{within}
+use Rattle.kinds.specs.Grammar.{Digits, followed-by}
+use Rattle.kinds.specs.Reader.{some-below}
+
+-- a test that fails below n and at n fails below n + 1
+pub none-below-more : (p : ℕ → Bool) (n : ℕ) → some-below p n ≡ false → p n ≡ false → some-below p (n + 1) ≡ false
+unfolding some-below
+none-below-more p n before here = ap (some-below p) (add-one n) ∙ ap (λ b. cond b true (some-below p n)) here ∙ before
+
+-- a test that passes at a number passes below every greater one
+pub some-below-at : (p : ℕ → Bool) (k n : ℕ) → k < n → p k ≡ true → some-below p n ≡ true
+unfolding some-below
+some-below-at p k zero h e = absurd (omega arith)
+some-below-at p k (suc n) h e =
+    ⊎-elim
+    (λ same. ap (λ b. cond b true (some-below p n)) (ap p (sym same) ∙ e))
+    (⊎-elim (λ below. go (p n) (some-below-at p k n below e)) (λ above. absurd (omega arith)))
+    (cases-order k n)
+  where
+    go : (b : Bool) → some-below p n ≡ true → cond b true (some-below p n) ≡ true
+    go true e = refl
+    go false e = e
+
+-- one digit more
+pub digits-more : (ds : List ℕ) (d : ℕ) → Digits ds → within 48 57 d ≡ true → Digits (ds ++ d ∷ [])
+digits-more [] d h e = (e, tt)
+digits-more (x ∷ xs) d h e = (h .0, digits-more xs d (h .1) e)
+
+pub followed-by-more : (n : ℕ) (ds : List ℕ) (d : ℕ) → followed-by n (ds ++ d ∷ []) ≡ 10 * followed-by n ds + (d - 48)
+followed-by-more n [] d = refl
+followed-by-more n (x ∷ xs) d = followed-by-more (10 * n + (x - 48)) xs d
+
+-- the characters from one place to another, and one more
+pub stretch-more : (t : List ℕ) (place end : ℕ) → place ≤ end → end < length t → take (end + 1 - place) (drop place t) ≡ take (end - place) (drop place t) ++ getD t end 0 ∷ []
+stretch-more t place end h i =
+    let on : end + 1 - place ≡ end - place + 1 = omega arith in
+    let at : place + (end - place) ≡ end = omega arith in
+    ap (λ n. take n (drop place t)) on
+    ∙ take-more (drop place t) (end - place) 0 (simp length-drop (omega arith))
+    ∙ ap (λ c. take (end - place) (drop place t) ++ c ∷ []) (getD-drop place t (end - place) 0 ∙ ap (λ k. getD t k 0) at)

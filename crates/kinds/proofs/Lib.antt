@@ -1,4 +1,6 @@
 pub mod Elements
 pub mod Places
 pub mod Spellings
+pub mod Steps
+pub mod Texts
 pub mod Vectors

@@ -1,4 +1,5 @@
 pub mod Elements
+pub mod Follows
 pub mod Places
 pub mod Spellings
 pub mod Steps

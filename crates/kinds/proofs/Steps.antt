@@ -12,7 +12,7 @@ use Rattle.std.specs.declared.option.Option.the-variants.{Some, None}
 use Rattle.kinds.specs.Alphabet.{Alphabet, Lawful, within, alphanumeric}
 use Rattle.kinds.specs.Grammar.{Position, gap-allowed}
 use Rattle.kinds.specs.Patterns.{Item, literal, any, group, range, gap}
-use Rattle.kinds.specs.Reader.{State, between, asked, half, alternatives, bracket, low, high, digits, endless, Numeral, least, most, Next, stuck, goes-on, complete, begun, only-if, leads, with-code, with-element, pair-in, closed, behind-digits, next}
+use Rattle.kinds.specs.Reader.{State, between, asked, half, alternatives, bracket, low, high, digits, endless, Numeral, least, most, Next, stuck, goes-on, complete, begun, only-if, leads, with-code, with-element, pair-in, closed, behind-digits, next, finished}
 use Rattle.kinds.specs.declared.pattern.Direction.the-variants.{FirstOn}
 use Rattle.kinds.proofs.Texts.{no-sign, leads-alphanumeric}
 
@@ -155,6 +155,27 @@ module _ {E : Type 0} (a : Alphabet E) where
   takes-code (in-bracket c) = refl
   takes-code (in-low inside run c) = refl
   takes-code (in-high inside lower run c) = refl
+
+  takes-inside : {s : State} {c : ℕ} {s′ : State} → Takes s c s′ → finished a s′ ≡ false
+  takes-inside (in-group runs run c) = refl
+  takes-inside (in-bracket c) = refl
+  takes-inside (in-low inside run c) = refl
+  takes-inside (in-high inside lower run c) = refl
+
+  -- a step within an item leads to no end of a text
+  pub goes-inside : {s : State} {c : ℕ} {s′ : State} → Goes a s c s′ → finished a s′ ≡ false
+  goes-inside (ask p) = refl
+  goes-inside (open-group p) = refl
+  goes-inside (open-bracket p) = refl
+  goes-inside (open-brace p g) = refl
+  goes-inside (first s c t l) = refl
+  goes-inside (second r s′ f c x e t) = takes-inside t
+  goes-inside (bar runs run b) = refl
+  goes-inside exclude = refl
+  goes-inside (colon inside run b) = refl
+  goes-inside (digit n k v c w l) = refl
+  goes-inside (dash k v l) = refl
+  goes-inside (unbounded m v) = refl
 
   module _ (law : Lawful a) where
     -- a character that leads begins a pair wherever a pair may begin

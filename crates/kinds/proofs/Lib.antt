@@ -6,3 +6,4 @@ pub mod Spellings
 pub mod Steps
 pub mod Texts
 pub mod Vectors
+pub mod Whole

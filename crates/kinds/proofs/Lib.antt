@@ -1,6 +1,7 @@
 pub mod Elements
 pub mod Follows
 pub mod Places
+pub mod Refusals
 pub mod Sound
 pub mod Spellings
 pub mod Steps

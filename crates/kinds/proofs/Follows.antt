@@ -1,5 +1,5 @@
 -- The reader follows a text item by item: what it reads of an item, and what it does with the rest.
-use mathlib.Core.Path.{_≡_, refl, sym, ap, subst, _∙_}
+use mathlib.Core.Path.{_≡_, refl, sym, ap, _∙_}
 use mathlib.Core.Bool.{Bool, true, false, cond}
 use mathlib.Core.List.{List, [], _∷_, _++_}
 use mathlib.Core.Logic.{_⊎_, inl, inr}
@@ -30,6 +30,7 @@ module _ {E : Type 0} (a : Alphabet E) where
         | complete i ↦ in-front a (record { place = from; item = i }) (follow a (between (behind i)) (place + 1) (place + 1) t)
       ]
 
+  -- one character of a text
   pub follow-next : (s : State) (from place c : ℕ) (t : List ℕ) (n : Next) → next a s c ≡ n → follow a s from place (c ∷ t) ≡ onward n from place t
   follow-next s from place c t n e = ap (λ m. onward m from place t) e
 
@@ -40,6 +41,7 @@ module _ {E : Type 0} (a : Alphabet E) where
       × (t ≡ front ++ rest) × (qs ≡ record { place = from; item = i } ∷ others)
       × Reads a s front i × (follow a (between (behind i)) (place + length front) (place + length front) rest ≡ Ok others)
 
+  -- an item in front of what was read
   in-front-ok : (q : Placed) (r : Result (List Placed) ℕ) (qs : List Placed) → in-front a q r ≡ Ok qs → (others : List Placed) × (qs ≡ q ∷ others) × (r ≡ Ok others)
   in-front-ok q (Ok others) qs e = (others, cc, refl)
   in-front-ok q (Err n) qs e = absurd (grind arith)

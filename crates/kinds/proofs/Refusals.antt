@@ -1,27 +1,25 @@
 -- The reader refuses a text at the longest prefix that begins some text.
-use mathlib.Core.Path.{_≡_, refl, sym, ap, subst, _∙_}
+use mathlib.Core.Path.{_≡_, refl, ap, _∙_}
 use mathlib.Core.Bool.{Bool, true, false, cond}
-use mathlib.Core.List.{List, [], _∷_, _++_, append-assoc, append-nil}
-use mathlib.Core.Logic.{_⊎_, inl, inr}
+use mathlib.Core.List.{List, [], _∷_, _++_, append-assoc}
 use Prim.Native.Nat.{ℕ, zero, suc, _+_, _-_, _*_, _≤_, _<_}
 use native.Mathlib.Omega.{arith}
 use lib.Chars.{codes}
 use lib.Dec.{ltb}
 use lib.ListN.{length, take, length-append}
 use Rattle.std.proofs.shelf.Lists.{take-at}
-use Rattle.std.proofs.shelf.Tests.{lt-ltb, true≢false}
-use Rattle.std.specs.declared.option.Option.{Option}
+use Rattle.std.proofs.shelf.Tests.{lt-ltb}
 use Rattle.std.specs.declared.option.Option.the-variants.{Some, None}
 use Rattle.std.specs.declared.result.Result.{Result}
 use Rattle.std.specs.declared.result.Result.the-variants.{Ok, Err}
 use Rattle.kinds.specs.Alphabet.{Alphabet, Lawful}
-use Rattle.kinds.specs.Grammar.{Placed, Position, start, after-thing, after-gap, behind, may-end, Begins, Longest}
+use Rattle.kinds.specs.Grammar.{Placed, Position, start, behind, Longest}
 use Rattle.kinds.specs.Patterns.{Item, literal, any, group, range, gap}
 use Rattle.kinds.specs.Reader.{State, between, asked, half, alternatives, bracket, low, high, digits, endless, Numeral, least, most, Next, stuck, goes-on, complete, closed, leads, next, finished, in-front, follow, items-of, Refuses-at-longest}
 use Rattle.kinds.specs.declared.pattern.Direction.the-variants.{FirstOn}
 use Rattle.kinds.proofs.Texts.{second-of, pair-leads}
 use Rattle.kinds.proofs.Steps
-use Rattle.kinds.proofs.Steps.{Takes, Goes, Done, Outcome, outcome, takes-pair}
+use Rattle.kinds.proofs.Steps.{Takes, Goes, Outcome, outcome, takes-pair}
 use Rattle.kinds.proofs.Follows.{Reads, ends, more, onward, follow-next, follow-reads}
 use Rattle.kinds.proofs.Whole.{pair-read, reads-exactly}
 
@@ -72,28 +70,29 @@ module _ {E : Type 0} (a : Alphabet E) (law : Lawful a) where
       let run′ = run ++ code ∷ [] in
       let runs′ = runs ++ run′ ∷ [] in
       some-pair-read (alternatives runs run) (alternatives runs run′) refl (Steps.in-group runs run code)
-          (one-more (alternatives runs run′) 124 (alternatives runs′ []) (Steps.bar runs run′ (pushed run code))
-          (some-pair-read (alternatives runs′ []) (alternatives runs′ (code ∷ [])) refl (Steps.in-group runs′ [] code)
-          (codes ")", group (runs′ ++ (code ∷ []) ∷ []), ends (Steps.close-group runs′ (code ∷ []) refl (pushed runs run′)))))
+      (one-more (alternatives runs run′) 124 (alternatives runs′ []) (Steps.bar runs run′ (pushed run code))
+      (some-pair-read (alternatives runs′ []) (alternatives runs′ (code ∷ [])) refl (Steps.in-group runs′ [] code)
+      (codes ")", group (runs′ ++ (code ∷ []) ∷ []), ends (Steps.close-group runs′ (code ∷ []) refl (pushed runs run′)))))
 
   -- in a range: a pair and the end, behind a pair and a colon if there was none
   high-completes : (inside : Bool) (lower run : List ℕ) → Completes (high inside lower run)
   high-completes inside lower run =
       let run′ = run ++ code ∷ [] in
       some-pair-read (high inside lower run) (high inside lower run′) refl (Steps.in-high inside lower run code)
-          (codes "]", range FirstOn inside lower run′, ends (Steps.close-high inside lower run′ (pushed run code)))
+      (codes "]", range FirstOn inside lower run′, ends (Steps.close-high inside lower run′ (pushed run code)))
 
   low-completes : (inside : Bool) (run : List ℕ) → Completes (low inside run)
   low-completes inside run =
       let run′ = run ++ code ∷ [] in
       some-pair-read (low inside run) (low inside run′) refl (Steps.in-low inside run code)
-          (one-more (low inside run′) 58 (high inside run′ []) (Steps.colon inside run′ (pushed run code)) (high-completes inside run′ []))
+      (one-more (low inside run′) 58 (high inside run′ []) (Steps.colon inside run′ (pushed run code)) (high-completes inside run′ []))
 
   -- in a number: the end, behind a digit if there was none
   digits-completes : (n : Numeral) (k v : ℕ) → Completes (digits n k v)
   digits-completes n zero v = one-more (digits n 0 v) 48 (digits n 1 (10 * v + 0)) (Steps.digit n 0 v 48 refl refl) (codes "}", closed a n (10 * v + 0), ends (Steps.close-gap n 1 (10 * v + 0) refl))
   digits-completes n (suc k) v = (codes "}", closed a n v, ends (Steps.close-gap n (suc k) v (lt-ltb 0 (suc k) (omega arith))))
 
+  -- behind a pair
   takes-completes : {s : State} {c : ℕ} {s′ : State} → Takes s c s′ → Completes s′
   takes-completes (Steps.in-group runs run c) = group-completes runs (run ++ c ∷ [])
   takes-completes (Steps.in-bracket c) = low-completes true (c ∷ [])
@@ -106,6 +105,7 @@ module _ {E : Type 0} (a : Alphabet E) (law : Lawful a) where
     where
       onwards : (s s′ : State) → (h : (d : ℕ) × (x : E) × (a .named f d ≡ Some x)) → Takes s (a .code (h .1)) s′ → Completes (half s f)
       onwards s s′ (d, x, e) takes = one-more (half s f) d s′ (Steps.second s s′ f d x e takes) (takes-completes takes)
+
       go : (s : State) → takes-pair s ≡ true → (d : ℕ) × (x : E) × (a .named f d ≡ Some x) → Completes (half s f)
       go (between p) y (d, x, e) = (d ∷ [], literal (a .code x), ends (Steps.pair p f d x e))
       go asked y h = absurd (grind arith)
@@ -142,10 +142,12 @@ module _ {E : Type 0} (a : Alphabet E) (law : Lawful a) where
   -- an item that can be completed can be followed by what ends a text
   completes-finishes : (s : State) → Completes s → Finishes s
   completes-finishes s (t, i, r) =
-      let (u, finish) = between-finishes (behind i) in
-      (t ++ u, λ from place.
-          let (qs, e) = finish (place + length t) (place + length t) in
-          (record { place = from; item = i } ∷ qs, follow-reads a law r from place u ∙ ap (in-front a (record { place = from; item = i })) e))
+      let (u, finish) = between-finishes (behind i) in (
+        t ++ u,
+        λ from place.
+            let (qs, e) = finish (place + length t) (place + length t) in
+            (record { place = from; item = i } ∷ qs, follow-reads a law r from place u ∙ ap (in-front a (record { place = from; item = i })) e),
+      )
 
   -- A text is refused at a place: what stands before it can go on to a text that is read, and with the character that
   -- stands there no text is.
@@ -155,6 +157,7 @@ module _ {E : Type 0} (a : Alphabet E) (law : Lawful a) where
       × ((u : List ℕ) × (qs : List Placed) × (follow a s from place (front ++ u) ≡ Ok qs))
       × ((c : ℕ) (tail u : List ℕ) → rest ≡ c ∷ tail → follow a s from place (front ++ c ∷ u) ≡ Err n)
 
+  -- an item in front keeps a refusal
   in-front-err : (q : Placed) (r : Result (List Placed) ℕ) (n : ℕ) → in-front a q r ≡ Err n → r ≡ Err n
   in-front-err q (Ok others) n e = absurd (grind arith)
   in-front-err q (Err m) n e = e
@@ -172,10 +175,16 @@ module _ {E : Type 0} (a : Alphabet E) (law : Lawful a) where
       → ((qs : List Placed) → (qs′ : List Placed) × (wrap (Ok qs) ≡ Ok qs′)) → wrap (Err n) ≡ Err n
       → Refused s′ from′ (place + 1) t n → Refused s from place (c ∷ t) n
   refused-later s s′ from from′ place c t n wrap step well ill (front, rest, cut, at, (u, qs, e), never) =
-      let (qs′, e′) = well qs in
-      (c ∷ front, rest, ap (λ l. c ∷ l) cut, omega arith, (u, qs′, step (front ++ u) ∙ ap wrap e ∙ e′),
-          λ d tail v h. step (front ++ d ∷ v) ∙ ap wrap (never d tail v h) ∙ ill)
+      let (qs′, e′) = well qs in (
+        c ∷ front,
+        rest,
+        ap (λ l. c ∷ l) cut,
+        omega arith,
+        (u, qs′, step (front ++ u) ∙ ap wrap e ∙ e′),
+        λ d tail v h. step (front ++ d ∷ v) ∙ ap wrap (never d tail v h) ∙ ill,
+      )
 
+  -- every refusal is such a one
   refused : (t : List ℕ) (s : State) (from place n : ℕ) → Finishes s → follow a s from place t ≡ Err n → Refused s from place t n
   refused [] s from place n f e = refused-here s from place [] n f (at-end (finished a s) e) (λ c tail u h. absurd (grind arith))
     where
@@ -189,16 +198,16 @@ module _ {E : Type 0} (a : Alphabet E) (law : Lawful a) where
           → Refused s from place (c ∷ t) n
       go stuck m o e ih =
           refused-here s from place (c ∷ t) n f (cc) (λ d tail u h.
-              let same : d ≡ c = cc in
-              follow-next a s from place d u stuck (ap (next a s) same ∙ m) ∙ e)
+          let same : d ≡ c = cc in
+          follow-next a s from place d u stuck (ap (next a s) same ∙ m) ∙ e)
       go (goes-on s′) m o e ih =
           refused-later s s′ from from place c t n (λ r. r) (λ u. follow-next a s from place c u (goes-on s′) m) (λ qs. (qs, refl)) refl
-              (ih s′ from (place + 1) n (completes-finishes s′ (goes-completes o)) e)
+          (ih s′ from (place + 1) n (completes-finishes s′ (goes-completes o)) e)
       go (complete i) m o e ih =
           let q : Placed = record { place = from; item = i } in
           let rest = follow a (between (behind i)) (place + 1) (place + 1) t in
           refused-later s (between (behind i)) from (place + 1) place c t n (in-front a q) (λ u. follow-next a s from place c u (complete i) m) (λ qs. (q ∷ qs, refl)) refl
-              (ih (between (behind i)) (place + 1) (place + 1) n (between-finishes (behind i)) (in-front-err q rest n e))
+          (ih (between (behind i)) (place + 1) (place + 1) n (between-finishes (behind i)) (in-front-err q rest n e))
 
   -- The reader refuses every other text at the longest prefix that begins some text.
   pub refuses-at-longest : Refuses-at-longest a
@@ -215,10 +224,11 @@ module _ {E : Type 0} (a : Alphabet E) (law : Lawful a) where
             let same : take k t ++ v ≡ front ++ c ∷ (later ++ v) = ap (λ s. take k s ++ v) cut ∙ ap (λ s. s ++ v) past ∙ append-assoc front (c ∷ later) v in
             let refusal = never c tail (later ++ v) e in
             let z : _≡_ {A = ℕ} 0 1 = cc in
-            omega arith
+            omega arith;
       }
         where
           taken : take n t ≡ front
           taken = ap (take n) cut ∙ take-at front rest n (omega arith)
+
           long : length t ≡ length front + length rest
           long = ap length cut ∙ length-append front rest

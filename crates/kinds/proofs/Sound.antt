@@ -3,18 +3,16 @@ use mathlib.Core.Path.{_≡_, refl, sym, ap, subst, _∙_}
 use mathlib.Core.Bool.{Bool, true, false}
 use mathlib.Core.List.{List, [], _∷_, _++_, append-assoc, append-nil}
 use mathlib.Core.Logic.{_⊎_, inl, inr}
-use Prim.Native.Nat.{ℕ, zero, suc, _+_, _-_, _*_, _≤_, _<_}
+use Prim.Native.Nat.{ℕ, suc, _+_, _-_, _*_, _≤_, _<_}
 use native.Mathlib.Omega.{arith}
 use lib.Chars.{codes}
 use lib.Dec.{ltb}
 use lib.ListN.{length, length-append}
 use Rattle.std.proofs.shelf.Tests.{ltb-true, true≢false}
-use Rattle.std.specs.declared.option.Option.{Option}
 use Rattle.std.specs.declared.option.Option.the-variants.{Some, None}
-use Rattle.std.specs.declared.result.Result.{Result}
-use Rattle.std.specs.declared.result.Result.the-variants.{Ok, Err}
-use Rattle.kinds.specs.Alphabet.{Alphabet, Lawful, within}
-use Rattle.kinds.specs.Grammar.{Placed, Position, start, after-thing, after-gap, gap-allowed, may-end, allowed, behind, Ordered, Text, Digits, followed-by, Number, Literal, Literals, Run, Alternatives, Bounds, Says, Says-all}
+use Rattle.std.specs.declared.result.Result.the-variants.{Ok}
+use Rattle.kinds.specs.Alphabet.{Alphabet, within}
+use Rattle.kinds.specs.Grammar.{Placed, Position, start, gap-allowed, may-end, allowed, behind, Ordered, Text, Digits, followed-by, Number, Literals, Run, Alternatives, Bounds, Says, Says-all}
 use Rattle.kinds.specs.Patterns.{Item, literal, any, group, range, gap}
 use Rattle.kinds.specs.Reader.{State, between, asked, half, alternatives, bracket, low, high, digits, endless, Numeral, least, most, begun, closed, follow, items-of}
 use Rattle.kinds.specs.declared.pattern.Direction.the-variants.{FirstOn}
@@ -37,6 +35,7 @@ Least-end i m t =
     ⊎ (((t ≡ codes "-*}") × (i ≡ gap m None))
     ⊎ ((most : ℕ) × (n : List ℕ) × (t ≡ codes "-" ++ (n ++ codes "}")) × Number most n × (i ≡ gap m (Some most))))
 
+-- the rest of a gap, for either number
 abbrev Digits-rest : Numeral → ℕ → ℕ → List ℕ → Item → Type 0
 Digits-rest least k v t i = Number-rest k v t (Least-end i)
 Digits-rest (most m) k v t i =
@@ -50,6 +49,7 @@ number-digit k v c t End w l (ds, rest, cut, are, short, long, end) =
     let fits : k < 4 = ltb-true k 4 l in
     (c ∷ ds, rest, ap (λ l. c ∷ l) cut, (w, are), omega arith, omega arith, end)
 
+-- the same in a gap, for either number
 digit-rest : (n : Numeral) (k v c : ℕ) (t : List ℕ) (i : Item) → within 48 57 c ≡ true → ltb k 4 ≡ true
     → Digits-rest n (suc k) (10 * v + (c - 48)) t i → Digits-rest n k v (c ∷ t) i
 digit-rest least k v c t i w l h = number-digit k v c t (Least-end i) w l h
@@ -58,9 +58,15 @@ digit-rest (most m) k v c t i w l (inr h) = absurd (omega arith)
 
 -- the dash between the numbers of a gap
 dash-rest : (k v : ℕ) (t : List ℕ) (i : Item) → ltb 0 k ≡ true → Digits-rest (most v) 0 0 t i → Digits-rest least k v (45 ∷ t) i
-dash-rest k v t i l (inl (ds, rest, cut, are, short, long, (end, same))) =
-    ([], 45 ∷ t, refl, tt, omega arith, omega (arith, ltb-true 0 k l),
-        inr (inr (followed-by 0 ds, ds, ap (λ l. 45 ∷ l) (cut ∙ ap (λ l. ds ++ l) end), (omega arith, omega arith, are, refl), same)))
+dash-rest k v t i l (inl (ds, rest, cut, are, short, long, (end, same))) = (
+  [],
+  45 ∷ t,
+  refl,
+  tt,
+  omega arith,
+  omega (arith, ltb-true 0 k l),
+  inr (inr (followed-by 0 ds, ds, ap (λ l. 45 ∷ l) (cut ∙ ap (λ l. ds ++ l) end), (omega arith, omega arith, are, refl), same)),
+)
 dash-rest k v t i l (inr (none, e, same)) =
     ([], 45 ∷ t, refl, tt, omega arith, omega (arith, ltb-true 0 k l), inr (inl (ap (λ l. 45 ∷ l) e, same)))
 
@@ -75,6 +81,7 @@ module _ {E : Type 0} (a : Alphabet E) where
   Others [] t = t ≡ codes ")"
   Others (run ∷ runs) t = (inner : List ℕ) × (t ≡ codes "|" ++ (inner ++ codes ")")) × Alternatives a (run ∷ runs) inner
 
+  -- what ends a group behind a run, a range behind its second run, and a range behind its first
   abbrev Group-end : List (List ℕ) → Item → List ℕ → List ℕ → Type 0
   Group-end runs i run t = (others : List (List ℕ)) × Others others t × (2 ≤ length (runs ++ run ∷ others)) × (i ≡ group (runs ++ run ∷ others))
 
@@ -98,6 +105,7 @@ module _ {E : Type 0} (a : Alphabet E) where
   Behind-pair (digits n k v) c t i = ⊥
   Behind-pair (endless m) c t i = ⊥
 
+  -- in any state
   abbrev Rest : State → List ℕ → Item → Type 0
   Rest (between p) t i = (allowed p i ≡ true) × Says a i t
   Rest asked t i = (t ≡ codes "?") × (i ≡ any)
@@ -120,11 +128,17 @@ module _ {E : Type 0} (a : Alphabet E) where
   run-pair : (run t : List ℕ) (f c : ℕ) (x : E) (End : List ℕ → List ℕ → Type 0) → a .named f c ≡ Some x
       → Run-rest (run ++ a .code x ∷ []) t End → Run-rest run (f ∷ c ∷ t) End
   run-pair run t f c x End e (added, said, rest, cut, says, long, end) =
-      let same : (run ++ a .code x ∷ []) ++ added ≡ run ++ a .code x ∷ added = append-assoc run (a .code x ∷ []) added in
-      (a .code x ∷ added, f ∷ c ∷ said, rest, ap (λ l. f ∷ c ∷ l) cut,
-          (f ∷ c ∷ [], said, refl, (f, c, x, e, refl, refl), says),
-          (rw same at long), (rw same at end))
+      let same : (run ++ a .code x ∷ []) ++ added ≡ run ++ a .code x ∷ added = append-assoc run (a .code x ∷ []) added in (
+        a .code x ∷ added,
+        f ∷ c ∷ said,
+        rest,
+        ap (λ l. f ∷ c ∷ l) cut,
+        (f ∷ c ∷ [], said, refl, (f, c, x, e, refl, refl), says),
+        (rw same at long),
+        (rw same at end),
+      )
 
+  -- the brace behind a number
   digits-end : (n : Numeral) (k v : ℕ) → ltb 0 k ≡ true → Digits-rest n k v (125 ∷ []) (closed a n v)
   digits-end least k v l = ([], 125 ∷ [], refl, tt, omega arith, omega (arith, ltb-true 0 k l), inl (refl, refl))
   digits-end (most m) k v l = inl ([], 125 ∷ [], refl, tt, omega arith, omega (arith, ltb-true 0 k l), (refl, refl))
@@ -156,7 +170,7 @@ module _ {E : Type 0} (a : Alphabet E) where
   -- the insides of a range
   low-says : (inside : Bool) (i : Item) (run said rest : List ℕ) → Run a run said → Low-end inside i run rest
       → (inner : List ℕ) × (upper : List ℕ) × (said ++ rest ≡ inner ++ codes "]") × (i ≡ range FirstOn inside run upper)
-        × (Bounds a run upper inner ⊎ ((inside ≡ false) × Run a run inner × (upper ≡ run)))
+      × (Bounds a run upper inner ⊎ ((inside ≡ false) × Run a run inner × (upper ≡ run)))
   low-says inside i run said rest h (inl (out, e, same)) = (said, run, ap (λ l. said ++ l) e, same, inr (out, h, refl))
   low-says inside i run said rest h (inr (upper, said′, e, h′, same)) =
       (said ++ (codes ":" ++ said′), upper, ap (λ l. said ++ l) e ∙ sym (append-assoc said (codes ":" ++ said′) (codes "]")), same, inl (said, said′, refl, h, h′))
@@ -208,6 +222,7 @@ module _ {E : Type 0} (a : Alphabet E) where
     where
       number : Number (followed-by 0 ds) ds
       number = (omega arith, omega arith, are, refl)
+
       go : Least-end i (followed-by 0 ds) rest → Rest (between p) (123 ∷ t) i
       go (inl (e, same)) =
           says-at p i (gap (followed-by 0 ds) (Some (followed-by 0 ds))) (123 ∷ t) same g (inl (ds, ap (λ l. 123 ∷ l) (cut ∙ ap (λ l. ds ++ l) e), number, refl))
@@ -230,7 +245,7 @@ module _ {E : Type 0} (a : Alphabet E) where
       let inside = with-others added said rest others (long, says) end in
       let apart : (runs ++ run ∷ []) ++ added ∷ others ≡ runs ++ run ∷ added ∷ others = append-assoc runs (run ∷ []) (added ∷ others) in
       run-over run (124 ∷ t) (Group-end runs i) b
-          (added ∷ others, (inside .0, ap (λ l. 124 ∷ l) (cut ∙ inside .1), inside .2), (rw apart at two), same ∙ ap group apart)
+      (added ∷ others, (inside .0, ap (λ l. 124 ∷ l) (cut ∙ inside .1), inside .2), (rw apart at two), same ∙ ap group apart)
   rest-more t i Steps.exclude h = inr (t, refl, h)
   rest-more t i (Steps.colon inside run b) (added, said, rest, cut, says, long, (end, same)) =
       run-over run (58 ∷ t) (Low-end inside i) b (inr (added, said, ap (λ l. 58 ∷ l) (cut ∙ ap (λ l. said ++ l) end), (long, says), same))
@@ -238,7 +253,8 @@ module _ {E : Type 0} (a : Alphabet E) where
   rest-more t i (Steps.dash k v l) h = dash-rest k v t i l h
   rest-more t i (Steps.unbounded m v) (e, same) = inr (refl, ap (λ l. 42 ∷ l) e, same)
 
-  pub reads-rest : {s : State} {t : List ℕ} {i : Item} → Reads a s t i → Rest s t i
+  -- what is read in a state completes the item that it is read as
+  reads-rest : {s : State} {t : List ℕ} {i : Item} → Reads a s t i → Rest s t i
   reads-rest (ends d) = rest-ends d
   reads-rest (more {t = t} {i = i} g r) = rest-more t i g (reads-rest r)
 

@@ -2,7 +2,7 @@
 use mathlib.Core.Path.{_≡_, refl, sym, ap, subst, subst₂, _∙_}
 use mathlib.Core.Bool.{Bool, true, false, cond, not, _&&_}
 use mathlib.Core.List.{List, [], _∷_, _++_}
-use Prim.Native.Nat.{ℕ, zero, suc, _+_, _-_, _*_}
+use Prim.Native.Nat.{ℕ, suc, _+_, _-_, _*_}
 use native.Mathlib.Omega.{arith}
 use lib.Dec.{eqb, ltb}
 use lib.ListN.{length}
@@ -61,12 +61,13 @@ pub data Done {E : Type 0} (a : Alphabet E) : State → ℕ → Item → Type 0 
   close-gap : (n : Numeral) (k v : ℕ) → ltb 0 k ≡ true → Done a (digits n k v) 125 (closed a n v)
   close-endless : (m : ℕ) → Done a (endless m) 125 (gap m None)
 
--- what the reader does with a character is such a step
+-- the step that an outcome of the reader stands for
 abbrev pub Outcome : {E : Type 0} → Alphabet E → State → ℕ → Next → Type 0
 Outcome a s c stuck = Unit {0}
 Outcome a s c (goes-on s′) = Goes a s c s′
 Outcome a s c (complete i) = Done a s c i
 
+-- a step under a test that passes
 only-true : (b : Bool) (n : Next) → b ≡ true → only-if b n ≡ n
 only-true b n e = rw e
 
@@ -81,10 +82,11 @@ module _ {E : Type 0} (a : Alphabet E) where
   sign-outcome s c sign x y here there =
       cond-both (eqb c sign) x y (Outcome a s c) (λ e. subst (λ k. Outcome a s k x) (sym (eqb-true c sign e)) here) (λ _. there)
 
+  -- the first character of a pair
   pair-outcome : (s : State) (c : ℕ) → takes-pair s ≡ true → Outcome a s c (pair-in a s c)
   pair-outcome s c t = only-outcome s c (leads a c) (goes-on (half s c)) (λ l. first s c t l)
 
-  -- the second character of a pair
+  -- the second character of a pair that names an element
   code-outcome : (s : State) (f c : ℕ) (x : E) → a .named f c ≡ Some x → Outcome a (half s f) c (with-code a s (a .code x))
   code-outcome (between p) f c x e = pair p f c x e
   code-outcome asked f c x e = tt
@@ -96,6 +98,7 @@ module _ {E : Type 0} (a : Alphabet E) where
   code-outcome (digits n k v) f c x e = tt
   code-outcome (endless m) f c x e = tt
 
+  -- the second character of a pair, whether the pair names an element or not
   half-outcome : (s : State) (f c : ℕ) (o : Option E) → a .named f c ≡ o → Outcome a (half s f) c (with-element a s o)
   half-outcome s f c None e = tt
   half-outcome s f c (Some x) e = code-outcome s f c x e
@@ -104,18 +107,19 @@ module _ {E : Type 0} (a : Alphabet E) where
   digits-outcome : (n : Numeral) (k v c : ℕ) → Outcome a (digits n k v) c (behind-digits a n k v c)
   digits-outcome least k v c =
       only-outcome (digits least k v) c (eqb c 45 && ltb 0 k) (goes-on (digits (most v) 0 0)) (λ e.
-          let both = and-parts (eqb c 45) (ltb 0 k) e in
-          subst (λ d. Goes a (digits least k v) d (digits (most v) 0 0)) (sym (eqb-true c 45 (both .0))) (dash k v (both .1)))
+      let both = and-parts (eqb c 45) (ltb 0 k) e in
+      subst (λ d. Goes a (digits least k v) d (digits (most v) 0 0)) (sym (eqb-true c 45 (both .0))) (dash k v (both .1)))
   digits-outcome (most m) k v c =
       only-outcome (digits (most m) k v) c (eqb c 42 && eqb k 0) (goes-on (endless m)) (λ e.
-          let both = and-parts (eqb c 42) (eqb k 0) e in
-          subst₂ (λ j d. Goes a (digits (most m) j v) d (endless m)) (sym (eqb-true k 0 (both .1))) (sym (eqb-true c 42 (both .0))) (unbounded m v))
+      let both = and-parts (eqb c 42) (eqb k 0) e in
+      subst₂ (λ j d. Goes a (digits (most m) j v) d (endless m)) (sym (eqb-true k 0 (both .1))) (sym (eqb-true c 42 (both .0))) (unbounded m v))
 
   -- the end of a range that has one run
   low-outcome : (inside : Bool) (run : List ℕ) (c : ℕ) → begun run ≡ true → not inside ≡ true → Outcome a (low inside run) 93 (complete (range FirstOn inside run run))
   low-outcome true run c b e = absurd (grind arith)
   low-outcome false run c b e = close-low run b
 
+  -- every outcome of the reader is such a step
   pub outcome : (s : State) (c : ℕ) → Outcome a s c (next a s c)
   outcome (between p) c =
       sign-outcome (between p) c 63 _ _ (ask p) (
@@ -129,23 +133,23 @@ module _ {E : Type 0} (a : Alphabet E) where
   outcome (alternatives runs run) c =
       sign-outcome (alternatives runs run) c 124 _ _ (only-outcome (alternatives runs run) 124 (begun run) _ (bar runs run)) (
       sign-outcome (alternatives runs run) c 41 _ _
-          (only-outcome (alternatives runs run) 41 (begun run && ltb 0 (length runs)) _ (λ e.
-              let both = and-parts (begun run) (ltb 0 (length runs)) e in close-group runs run (both .0) (both .1))) (
+      (only-outcome (alternatives runs run) 41 (begun run && ltb 0 (length runs)) _ (λ e.
+      let both = and-parts (begun run) (ltb 0 (length runs)) e in close-group runs run (both .0) (both .1))) (
       pair-outcome (alternatives runs run) c refl))
   outcome bracket c = sign-outcome bracket c 33 _ _ exclude (pair-outcome bracket c refl)
   outcome (low inside run) c =
       sign-outcome (low inside run) c 58 _ _ (only-outcome (low inside run) 58 (begun run) _ (colon inside run)) (
       sign-outcome (low inside run) c 93 _ _
-          (only-outcome (low inside run) 93 (begun run && not inside) _ (λ e.
-              let both = and-parts (begun run) (not inside) e in low-outcome inside run c (both .0) (both .1))) (
+      (only-outcome (low inside run) 93 (begun run && not inside) _ (λ e.
+      let both = and-parts (begun run) (not inside) e in low-outcome inside run c (both .0) (both .1))) (
       pair-outcome (low inside run) c refl))
   outcome (high inside lower run) c =
       sign-outcome (high inside lower run) c 93 _ _ (only-outcome (high inside lower run) 93 (begun run) _ (close-high inside lower run)) (
       pair-outcome (high inside lower run) c refl)
   outcome (digits n k v) c =
       cond-both (within 48 57 c) _ _ (Outcome a (digits n k v) c)
-          (λ w. only-outcome (digits n k v) c (ltb k 4) _ (digit n k v c w))
-          (λ _. sign-outcome (digits n k v) c 125 _ _ (only-outcome (digits n k v) 125 (ltb 0 k) _ (close-gap n k v)) (digits-outcome n k v c))
+      (λ w. only-outcome (digits n k v) c (ltb k 4) _ (digit n k v c w))
+      (λ _. sign-outcome (digits n k v) c 125 _ _ (only-outcome (digits n k v) 125 (ltb 0 k) _ (close-gap n k v)) (digits-outcome n k v c))
   outcome (endless m) c =
       only-outcome (endless m) c (eqb c 125) (complete (gap m None)) (λ e. subst (λ k. Done a (endless m) k (gap m None)) (sym (eqb-true c 125 e)) (close-endless m))
 
@@ -156,6 +160,7 @@ module _ {E : Type 0} (a : Alphabet E) where
   takes-code (in-low inside run c) = refl
   takes-code (in-high inside lower run c) = refl
 
+  -- a code leads to no end of a text
   takes-inside : {s : State} {c : ℕ} {s′ : State} → Takes s c s′ → finished a s′ ≡ false
   takes-inside (in-group runs run c) = refl
   takes-inside (in-bracket c) = refl
@@ -184,8 +189,10 @@ module _ {E : Type 0} (a : Alphabet E) where
       where
         alone : (sign : ℕ) (x y : Next) → alphanumeric sign ≡ false → cond (eqb c sign) x y ≡ y
         alone sign x y h = cond-false (eqb c sign) x y (no-sign sign c h (leads-alphanumeric a law c l))
+
         begins : (s : State) → pair-in a s c ≡ goes-on (half s c)
         begins s = only-true (leads a c) (goes-on (half s c)) l
+
         go : (s : State) → takes-pair s ≡ true → next a s c ≡ goes-on (half s c)
         go (between p) t = alone 63 _ _ refl ∙ alone 40 _ _ refl ∙ alone 91 _ _ refl ∙ alone 42 _ _ refl ∙ alone 123 _ _ refl ∙ begins (between p)
         go asked t = absurd (grind arith)

@@ -13,11 +13,12 @@ use Rattle.std.specs.declared.option.Option.the-variants.{Some, None}
 use Rattle.kinds.specs.Alphabet.{Alphabet, Lawful, alphanumeric}
 use Rattle.kinds.specs.Reader.{leads}
 
--- the reader's search for a second character, which names the same number
+-- whether a test passes below a bound, in the order of the reader's search for a second character
 abbrev any-below : (ℕ → Bool) → ℕ → Bool
 any-below p zero = false
 any-below p (suc n) = cond (p n) true (any-below p n)
 
+-- a conditional that is an or
 cond-or : (b c : Bool) → cond b true c ≡ (b || c)
 cond-or true c = refl
 cond-or false c = refl
@@ -26,13 +27,16 @@ cond-or false c = refl
 any-below-decides : (p : ℕ → Bool) (n : ℕ) → Decides (any-below p n) ((k : ℕ) × (k < n) × (p k ≡ true))
 any-below-decides p = decides-below-or p (λ k. p k ≡ true) (any-below p) (λ k. ((λ e. e), (λ e. e))) refl (λ n. cond-or (p n) (any-below p n))
 
+-- the reader's own search is this one
 leads-is : {E : Type 0} (a : Alphabet E) (c : ℕ) → leads a c ≡ any-below (λ d. isSome (a .named c d)) 256
 leads-is a c = refl
 
+-- an option that is some has its value
 some-from : {E : Type 0} (o : Option E) → isSome o ≡ true → (x : E) × (o ≡ Some x)
 some-from None e = absurd (grind arith)
 some-from (Some x) e = (x, refl)
 
+-- a letter or a digit is below the bound of the search
 below-256 : (c : ℕ) → alphanumeric c ≡ true → c < 256
 below-256 c e = grind (arith, tells)
 

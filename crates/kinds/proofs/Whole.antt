@@ -2,8 +2,8 @@
 use mathlib.Core.Path.{_≡_, refl, sym, ap, subst, _∙_}
 use mathlib.Core.Bool.{Bool, true, false}
 use mathlib.Core.List.{List, [], _∷_, _++_, append-assoc, append-nil}
-use mathlib.Core.Logic.{_⊎_, inl, inr}
-use Prim.Native.Nat.{ℕ, zero, suc, _+_, _-_, _*_, _≤_, _<_}
+use mathlib.Core.Logic.{inl, inr}
+use Prim.Native.Nat.{ℕ, suc, _+_, _-_, _*_, _≤_, _<_}
 use native.Mathlib.Omega.{arith}
 use lib.Chars.{codes}
 use lib.Dec.{ltb}
@@ -11,12 +11,11 @@ use lib.ListN.{length, length-append}
 use Rattle.std.proofs.shelf.Tests.{lt-ltb}
 use Rattle.std.specs.declared.option.Option.{Option}
 use Rattle.std.specs.declared.option.Option.the-variants.{Some, None}
-use Rattle.std.specs.declared.result.Result.{Result}
-use Rattle.std.specs.declared.result.Result.the-variants.{Ok, Err}
+use Rattle.std.specs.declared.result.Result.the-variants.{Ok}
 use Rattle.kinds.specs.Alphabet.{Alphabet, Lawful}
-use Rattle.kinds.specs.Grammar.{Placed, Position, start, gap-allowed, allowed, behind, Ordered, Text, Digits, followed-by, Number, Gap, Literals, Run, Alternatives, Bounds, Range, Says, Says-all}
+use Rattle.kinds.specs.Grammar.{Placed, Position, start, gap-allowed, allowed, behind, Ordered, Digits, followed-by, Number, Gap, Literal, Literals, Run, Alternatives, Range, Says, Says-all}
 use Rattle.kinds.specs.Patterns.{Item, literal, any, group, range, gap}
-use Rattle.kinds.specs.Reader.{State, between, asked, half, alternatives, bracket, low, high, digits, endless, Numeral, least, most, in-front, follow, items-of, Reads-exactly}
+use Rattle.kinds.specs.Reader.{State, between, alternatives, bracket, low, high, digits, Numeral, least, most, in-front, follow, Reads-exactly}
 use Rattle.kinds.specs.declared.pattern.Direction.the-variants.{FirstOn}
 use Rattle.kinds.proofs.Texts.{pair-leads}
 use Rattle.kinds.proofs.Steps
@@ -30,16 +29,21 @@ module _ {E : Type 0} (a : Alphabet E) (law : Lawful a) where
       → Reads a s′ t i → Reads a s (f ∷ c ∷ t) i
   pair-read s s′ f c x t i y named takes r = more (Steps.first s f y (pair-leads a law f c x named)) (more (Steps.second s s′ f c x named takes) r)
 
+  -- a literal that leads from one state to another
+  literal-read : (s s′ : State) (c : ℕ) (said t : List ℕ) (i : Item) → takes-pair s ≡ true → Takes s c s′ → Literal a c said → Reads a s′ t i → Reads a s (said ++ t) i
+  literal-read s s′ c said t i y takes (f, d, x, named, same, e) r =
+      rw e (pair-read s s′ f d x t i y named (subst (λ z. Takes s z s′) same takes) r)
+
   -- literals, in a state that gathers a run
   literals-read : (gather : List ℕ → State) → ((run : List ℕ) → takes-pair (gather run) ≡ true) → ((run : List ℕ) (c : ℕ) → Takes (gather run) c (gather (run ++ c ∷ [])))
       → (cs run said t : List ℕ) (i : Item) → Literals a cs said → Reads a (gather (run ++ cs)) t i → Reads a (gather run) (said ++ t) i
   literals-read gather y takes [] run said t i e r = rw e (rw append-nil at r)
-  literals-read gather y takes (c ∷ cs) run said t i (front, rest, cut, (f, d, x, named, same, e), says) r =
-      let whole : said ++ t ≡ f ∷ d ∷ (rest ++ t) = ap (λ l. l ++ t) (cut ∙ ap (λ l. l ++ rest) e) in
+  literals-read gather y takes (c ∷ cs) run said t i (front, rest, cut, one, says) r =
       let gathered = subst (λ l. Reads a (gather l) t i) (sym (append-assoc run (c ∷ []) cs)) r in
-      let step = subst (λ z. Takes (gather run) z (gather (run ++ c ∷ []))) same (takes run c) in
-      rw whole (pair-read (gather run) (gather (run ++ c ∷ [])) f d x (rest ++ t) i (y run) named step (literals-read gather y takes cs (run ++ c ∷ []) rest t i says gathered))
+      let later = literals-read gather y takes cs (run ++ c ∷ []) rest t i says gathered in
+      rw (cut, append-assoc) (literal-read (gather run) (gather (run ++ c ∷ [])) c front (rest ++ t) i (y run) (takes run c) one later)
 
+  -- literals of a run in a group, and in the two places of a range
   group-literals : (runs : List (List ℕ)) (cs said t : List ℕ) (i : Item) → Literals a cs said → Reads a (alternatives runs cs) t i → Reads a (alternatives runs []) (said ++ t) i
   group-literals runs cs = literals-read (alternatives runs) (λ run. refl) (Steps.in-group runs) cs []
 
@@ -67,16 +71,15 @@ module _ {E : Type 0} (a : Alphabet E) (law : Lawful a) where
   colon-read : (inside : Bool) (lower upper said : List ℕ) → 0 < length lower → Run a upper said → Reads a (low inside lower) (codes ":" ++ (said ++ codes "]")) (range FirstOn inside lower upper)
   colon-read inside lower upper said long (long′, says) =
       more (Steps.colon inside lower (lt-ltb 0 (length lower) long))
-          (high-literals inside lower upper said (codes "]") (range FirstOn inside lower upper) says (ends (Steps.close-high inside lower upper (lt-ltb 0 (length upper) long′))))
+      (high-literals inside lower upper said (codes "]") (range FirstOn inside lower upper) says (ends (Steps.close-high inside lower upper (lt-ltb 0 (length upper) long′))))
 
   -- the first run of a range, behind its bracket
   bracket-read : (run said t : List ℕ) (i : Item) → Run a run said → Reads a (low true run) t i → Reads a bracket (said ++ t) i
   bracket-read [] said t i (long, says) r = absurd (omega arith)
-  bracket-read (c ∷ cs) said t i (long, (front, rest, cut, (f, d, x, named, same, e), says)) r =
-      let whole : said ++ t ≡ f ∷ d ∷ (rest ++ t) = ap (λ l. l ++ t) (cut ∙ ap (λ l. l ++ rest) e) in
-      let step = subst (λ z. Takes bracket z (low true (c ∷ []))) same (Steps.in-bracket c) in
-      rw whole (pair-read bracket (low true (c ∷ [])) f d x (rest ++ t) i refl named step (low-literals true cs (c ∷ []) rest t i says r))
+  bracket-read (c ∷ cs) said t i (long, (front, rest, cut, one, says)) r =
+      rw (cut, append-assoc) (literal-read bracket (low true (c ∷ [])) c front (rest ++ t) i refl (Steps.in-bracket c) one (low-literals true cs (c ∷ []) rest t i says r))
 
+  -- a range in brackets
   range-read : (p : Position) (inside : Bool) (lower upper t : List ℕ) → Range a inside lower upper t → Reads a (between p) t (range FirstOn inside lower upper)
   range-read p true lower upper t (inner, e, (front, rest, cut, h, h′)) =
       let whole : t ≡ codes "[" ++ (front ++ (codes ":" ++ (rest ++ codes "]"))) = e ∙ ap (λ l. 91 ∷ l) (ap (λ l. l ++ codes "]") cut ∙ append-assoc front (codes ":" ++ rest) (codes "]")) in
@@ -84,10 +87,10 @@ module _ {E : Type 0} (a : Alphabet E) (law : Lawful a) where
   range-read p false lower upper t (inner, e, inl (front, rest, cut, h, h′)) =
       let whole : t ≡ codes "[!" ++ (front ++ (codes ":" ++ (rest ++ codes "]"))) = e ∙ ap (λ l. 91 ∷ 33 ∷ l) (ap (λ l. l ++ codes "]") cut ∙ append-assoc front (codes ":" ++ rest) (codes "]")) in
       rw whole (more (Steps.open-bracket p) (more Steps.exclude
-          (low-literals false lower [] front (codes ":" ++ (rest ++ codes "]")) (range FirstOn false lower upper) (h .1) (colon-read false lower upper rest (h .0) h′))))
+      (low-literals false lower [] front (codes ":" ++ (rest ++ codes "]")) (range FirstOn false lower upper) (h .1) (colon-read false lower upper rest (h .0) h′))))
   range-read p false lower upper t (inner, e, inr (h, same)) =
       rw (same, e) (more (Steps.open-bracket p) (more Steps.exclude
-          (low-literals false lower [] inner (codes "]") (range FirstOn false lower lower) (h .1) (ends (Steps.close-low lower (lt-ltb 0 (length lower) (h .0)))))))
+      (low-literals false lower [] inner (codes "]") (range FirstOn false lower lower) (h .1) (ends (Steps.close-low lower (lt-ltb 0 (length lower) (h .0)))))))
 
   -- the digits of a number, with k of them read
   digits-read : (n : Numeral) (ds : List ℕ) (k v m : ℕ) (t : List ℕ) (i : Item) → Digits ds → k + length ds ≡ m → m ≤ 4
@@ -96,20 +99,22 @@ module _ {E : Type 0} (a : Alphabet E) (law : Lawful a) where
   digits-read n (d ∷ ds) k v m t i are e short r =
       more (Steps.digit n k v d (are .0) (lt-ltb k 4 (omega arith))) (digits-read n ds (suc k) (10 * v + (d - 48)) m t i (are .1) (omega arith) short r)
 
+  -- a whole number, and what follows it however many digits it has
   number-read : (n : Numeral) (v : ℕ) (ds t : List ℕ) (i : Item) → Number v ds → ((k : ℕ) → ltb 0 k ≡ true → Reads a (digits n k v) t i) → Reads a (digits n 0 0) (ds ++ t) i
   number-read n v ds t i (long, short, are, same) r =
       digits-read n ds 0 0 (length ds) t i are (omega arith) short (rw same at (r (length ds) (lt-ltb 0 (length ds) long)))
 
+  -- a gap in any of its forms
   gap-read : (p : Position) (lower : ℕ) (upper : Option ℕ) (t : List ℕ) → gap-allowed p ≡ true → Gap lower upper t → Reads a (between p) t (gap lower upper)
   gap-read p lower None t g (inl (same, e)) = rw (same, e) (ends (Steps.star p g))
   gap-read p lower None t g (inr (m, e, number)) =
       rw e (more (Steps.open-brace p g) (number-read least lower m (codes "-*}") (gap lower None) number (λ k l.
-          more (Steps.dash k lower l) (more (Steps.unbounded lower 0) (ends (Steps.close-endless lower))))))
+      more (Steps.dash k lower l) (more (Steps.unbounded lower 0) (ends (Steps.close-endless lower))))))
   gap-read p lower (Some upper) t g (inl (n, e, number, same)) =
       rw (same, e) (more (Steps.open-brace p g) (number-read least lower n (codes "}") (gap lower (Some lower)) number (λ k l. ends (Steps.close-gap least k lower l))))
   gap-read p lower (Some upper) t g (inr (m, n, e, number, number′)) =
       rw e (more (Steps.open-brace p g) (number-read least lower m (codes "-" ++ (n ++ codes "}")) (gap lower (Some upper)) number (λ k l.
-          more (Steps.dash k lower l) (number-read (most lower) upper n (codes "}") (gap lower (Some upper)) number′ (λ k l. ends (Steps.close-gap (most lower) k upper l))))))
+      more (Steps.dash k lower l) (number-read (most lower) upper n (codes "}") (gap lower (Some upper)) number′ (λ k l. ends (Steps.close-gap (most lower) k upper l))))))
 
   -- what says an item is read as that item
   item-read : (p : Position) (i : Item) (t : List ℕ) → allowed p i ≡ true → Says a i t → Reads a (between p) t i

@@ -1,5 +1,7 @@
+pub mod Decisions
 pub mod Elements
 pub mod Follows
+pub mod Mirrors
 pub mod Places
 pub mod Refusals
 pub mod Sound

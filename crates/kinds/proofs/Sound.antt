@@ -13,7 +13,7 @@ use Rattle.std.specs.declared.option.Option.the-variants.{Some, None}
 use Rattle.std.specs.declared.result.Result.the-variants.{Ok}
 use Rattle.kinds.specs.Alphabet.{Alphabet, within}
 use Rattle.kinds.specs.Grammar.{Placed, Position, start, gap-allowed, may-end, allowed, behind, Ordered, Text, Digits, followed-by, Number, Literals, Run, Alternatives, Bounds, Says, Says-all}
-use Rattle.kinds.specs.Patterns.{Item, literal, any, group, range, gap}
+use Rattle.kinds.specs.Patterns.{Item, literal, any, group, range, other, gap}
 use Rattle.kinds.specs.Reader.{State, between, asked, half, alternatives, bracket, low, high, digits, endless, Numeral, least, most, begun, closed, follow, items-of}
 use Rattle.kinds.specs.declared.pattern.Direction.the-variants.{FirstOn}
 use Rattle.kinds.proofs.Steps
@@ -90,7 +90,7 @@ module _ {E : Type 0} (a : Alphabet E) where
 
   abbrev Low-end : Bool → Item → List ℕ → List ℕ → Type 0
   Low-end inside i run t =
-      ((inside ≡ false) × (t ≡ codes "]") × (i ≡ range FirstOn inside run run))
+      ((inside ≡ false) × (t ≡ codes "]") × (i ≡ other run))
       ⊎ ((upper : List ℕ) × (said : List ℕ) × (t ≡ codes ":" ++ (said ++ codes "]")) × Run a upper said × (i ≡ range FirstOn inside run upper))
 
   -- behind a pair
@@ -151,7 +151,7 @@ module _ {E : Type 0} (a : Alphabet E) where
   rest-ends (Steps.close-group runs run b l) =
       let long : 2 ≤ length (runs ++ run ∷ []) = omega (arith, length-append runs (run ∷ []), ltb-true 0 (length runs) l) in
       run-over run (41 ∷ []) (Group-end runs (group (runs ++ run ∷ []))) b ([], refl, long, refl)
-  rest-ends (Steps.close-low run b) = run-over run (93 ∷ []) (Low-end false (range FirstOn false run run)) b (inl (refl, refl, refl))
+  rest-ends (Steps.close-low run b) = run-over run (93 ∷ []) (Low-end false (other run)) b (inl (refl, refl, refl))
   rest-ends (Steps.close-high inside lower run b) = run-over run (93 ∷ []) (High-end inside lower (range FirstOn inside lower run)) b (refl, refl)
   rest-ends (Steps.close-gap n k v l) = digits-end n k v l
   rest-ends (Steps.close-endless m) = (refl, refl)
@@ -164,16 +164,13 @@ module _ {E : Type 0} (a : Alphabet E) where
   with-others : (run said rest : List ℕ) (others : List (List ℕ)) → Run a run said → Others others rest
       → (inner : List ℕ) × (said ++ rest ≡ inner ++ codes ")") × Alternatives a (run ∷ others) inner
   with-others run said rest [] h e = (said, ap (λ l. said ++ l) e, h)
-  with-others run said rest (other ∷ others) h (inner, e, alts) =
+  with-others run said rest (next ∷ others) h (inner, e, alts) =
       (said ++ (codes "|" ++ inner), ap (λ l. said ++ l) e ∙ sym (append-assoc said (codes "|" ++ inner) (codes ")")), (said, inner, refl, h, alts))
 
-  -- the insides of a range
-  low-says : (inside : Bool) (i : Item) (run said rest : List ℕ) → Run a run said → Low-end inside i run rest
-      → (inner : List ℕ) × (upper : List ℕ) × (said ++ rest ≡ inner ++ codes "]") × (i ≡ range FirstOn inside run upper)
-      × (Bounds a run upper inner ⊎ ((inside ≡ false) × Run a run inner × (upper ≡ run)))
-  low-says inside i run said rest h (inl (out, e, same)) = (said, run, ap (λ l. said ++ l) e, same, inr (out, h, refl))
-  low-says inside i run said rest h (inr (upper, said′, e, h′, same)) =
-      (said ++ (codes ":" ++ said′), upper, ap (λ l. said ++ l) e ∙ sym (append-assoc said (codes ":" ++ said′) (codes "]")), same, inl (said, said′, refl, h, h′))
+  -- a run, a colon and a run are bounds
+  with-bounds : (lower said upper said′ : List ℕ) → Run a lower said → Run a upper said′
+      → (inner : List ℕ) × (said ++ (codes ":" ++ (said′ ++ codes "]")) ≡ inner ++ codes "]") × Bounds a lower upper inner
+  with-bounds lower said upper said′ h h′ = (said ++ (codes ":" ++ said′), sym (append-assoc said (codes ":" ++ said′) (codes "]")), (said, said′, refl, h, h′))
 
   -- a pair, and what stands behind it
   pair-rest : (s : State) (f : ℕ) (t : List ℕ) (i : Item) → takes-pair s ≡ true → Rest (half s f) t i → Rest s (f ∷ t) i
@@ -199,22 +196,17 @@ module _ {E : Type 0} (a : Alphabet E) where
   takes-rest t i (Steps.in-low inside run c) h = h
   takes-rest t i (Steps.in-high inside lower run c) h = h
 
-  -- an open bracket says a range
+  -- an open bracket says a range, or what one run leaves out
   bracket-rest : (p : Position) (t : List ℕ) (i : Item) → Rest bracket t i → Rest (between p) (91 ∷ t) i
-  bracket-rest p t i (inl (added, said, rest, cut, says, long, end)) =
-      let (inner, upper, e, same, bounds) = low-says true i added said rest (long, says) end in
-      says-at p i (range FirstOn true added upper) (91 ∷ t) same refl (refl, (inner, ap (λ l. 91 ∷ l) (cut ∙ e), go inner upper bounds))
-    where
-      go : (inner upper : List ℕ) → Bounds a added upper inner ⊎ ((true ≡ false) × Run a added inner × (upper ≡ added)) → Bounds a added upper inner
-      go inner upper (inl b) = b
-      go inner upper (inr h) = absurd (true≢false (h .0))
-  bracket-rest p t i (inr (tail, e₀, (added, said, rest, cut, says, long, end))) =
-      let (inner, upper, e, same, bounds) = low-says false i added said rest (long, says) end in
-      says-at p i (range FirstOn false added upper) (91 ∷ t) same refl (refl, (inner, ap (λ l. 91 ∷ l) (e₀ ∙ ap (λ l. 33 ∷ l) (cut ∙ e)), go inner upper bounds))
-    where
-      go : (inner upper : List ℕ) → Bounds a added upper inner ⊎ ((false ≡ false) × Run a added inner × (upper ≡ added)) → Bounds a added upper inner ⊎ (Run a added inner × (upper ≡ added))
-      go inner upper (inl b) = inl b
-      go inner upper (inr h) = inr (h .1, h .2)
+  bracket-rest p t i (inl (added, said, rest, cut, says, long, inl h)) = absurd (true≢false (h .0))
+  bracket-rest p t i (inl (added, said, rest, cut, says, long, inr (upper, said′, e, h, same))) =
+      let (inner, e′, bounds) = with-bounds added said upper said′ (long, says) h in
+      says-at p i (range FirstOn true added upper) (91 ∷ t) same refl (refl, (inner, ap (λ l. 91 ∷ l) (cut ∙ ap (λ l. said ++ l) e ∙ e′), bounds))
+  bracket-rest p t i (inr (tail, e₀, (added, said, rest, cut, says, long, inl (out, e, same)))) =
+      says-at p i (other added) (91 ∷ t) same refl (said, ap (λ l. 91 ∷ l) (e₀ ∙ ap (λ l. 33 ∷ l) (cut ∙ ap (λ l. said ++ l) e)), (long, says))
+  bracket-rest p t i (inr (tail, e₀, (added, said, rest, cut, says, long, inr (upper, said′, e, h, same)))) =
+      let (inner, e′, bounds) = with-bounds added said upper said′ (long, says) h in
+      says-at p i (range FirstOn false added upper) (91 ∷ t) same refl (refl, (inner, ap (λ l. 91 ∷ l) (e₀ ∙ ap (λ l. 33 ∷ l) (cut ∙ ap (λ l. said ++ l) e ∙ e′)), bounds))
 
   -- an open brace says a gap
   brace-rest : (p : Position) (t : List ℕ) (i : Item) → gap-allowed p ≡ true → Digits-rest least 0 0 t i → Rest (between p) (123 ∷ t) i

@@ -11,7 +11,7 @@ use Rattle.std.specs.declared.option.Option.{Option}
 use Rattle.std.specs.declared.option.Option.the-variants.{Some, None}
 use Rattle.kinds.specs.Alphabet.{Alphabet, Lawful, within, alphanumeric}
 use Rattle.kinds.specs.Grammar.{Position, gap-allowed}
-use Rattle.kinds.specs.Patterns.{Item, literal, any, group, range, gap}
+use Rattle.kinds.specs.Patterns.{Item, literal, any, group, range, other, gap}
 use Rattle.kinds.specs.Reader.{State, between, asked, half, alternatives, bracket, low, high, digits, endless, Numeral, least, most, Next, stuck, goes-on, complete, begun, only-if, leads, with-code, with-element, pair-in, closed, behind-digits, next, finished}
 use Rattle.kinds.specs.declared.pattern.Direction.the-variants.{FirstOn}
 use Rattle.kinds.proofs.Texts.{no-sign, leads-alphanumeric}
@@ -56,7 +56,7 @@ pub data Done {E : Type 0} (a : Alphabet E) : State → ℕ → Item → Type 0 
   pair : (p : Position) (f c : ℕ) (x : E) → a .named f c ≡ Some x → Done a (half (between p) f) c (literal (a .code x))
   asked-twice : Done a asked 63 any
   close-group : (runs : List (List ℕ)) (run : List ℕ) → begun run ≡ true → ltb 0 (length runs) ≡ true → Done a (alternatives runs run) 41 (group (runs ++ run ∷ []))
-  close-low : (run : List ℕ) → begun run ≡ true → Done a (low false run) 93 (range FirstOn false run run)
+  close-low : (run : List ℕ) → begun run ≡ true → Done a (low false run) 93 (other run)
   close-high : (inside : Bool) (lower run : List ℕ) → begun run ≡ true → Done a (high inside lower run) 93 (range FirstOn inside lower run)
   close-gap : (n : Numeral) (k v : ℕ) → ltb 0 k ≡ true → Done a (digits n k v) 125 (closed a n v)
   close-endless : (m : ℕ) → Done a (endless m) 125 (gap m None)
@@ -114,8 +114,8 @@ module _ {E : Type 0} (a : Alphabet E) where
       let both = and-parts (eqb c 42) (eqb k 0) e in
       subst₂ (λ j d. Goes a (digits (most m) j v) d (endless m)) (sym (eqb-true k 0 (both .1))) (sym (eqb-true c 42 (both .0))) (unbounded m v))
 
-  -- the end of a range that has one run
-  low-outcome : (inside : Bool) (run : List ℕ) (c : ℕ) → begun run ≡ true → not inside ≡ true → Outcome a (low inside run) 93 (complete (range FirstOn inside run run))
+  -- the end of a bracket that has one run
+  low-outcome : (inside : Bool) (run : List ℕ) (c : ℕ) → begun run ≡ true → not inside ≡ true → Outcome a (low inside run) 93 (complete (other run))
   low-outcome true run c b e = absurd (grind arith)
   low-outcome false run c b e = close-low run b
 

@@ -7,7 +7,7 @@ use Rattle.std.specs.declared.option.Option.the-variants.{Some, None}
 use lib.Chars.{codes}
 use Rattle.std.specs.declared.result.Result.the-variants.{Ok, Err}
 use Rattle.kinds.specs.Bytes.{byte-alphabet}
-use Rattle.kinds.specs.Patterns.{Item, hits, literal, any, group, range, gap}
+use Rattle.kinds.specs.Patterns.{Item, hits, literal, any, group, range, other, gap}
 use Rattle.kinds.specs.Reader.{items-of}
 use Rattle.kinds.specs.declared.pattern.Direction.the-variants.{FirstOn}
 use Rattle.kinds.specs.declared.pattern.Reference.the-variants.{Front, Anywhere}
@@ -47,7 +47,7 @@ all-items : items-of byte-alphabet (codes "41??(42|4344)[45:46][!47]*{5-4}48") �
     ∷ record { place = 2; item = any }
     ∷ record { place = 4; item = group ((0x42 ∷ []) ∷ (0x43 ∷ 0x44 ∷ []) ∷ []) }
     ∷ record { place = 13; item = range FirstOn true (0x45 ∷ []) (0x46 ∷ []) }
-    ∷ record { place = 20; item = range FirstOn false (0x47 ∷ []) (0x47 ∷ []) }
+    ∷ record { place = 20; item = other (0x47 ∷ []) }
     ∷ record { place = 25; item = gap 0 None }
     ∷ record { place = 26; item = gap 5 (Some 4) }
     ∷ record { place = 31; item = literal 0x48 }

@@ -14,7 +14,7 @@ use Rattle.std.specs.declared.option.Option.the-variants.{Some, None}
 use Rattle.std.specs.declared.result.Result.the-variants.{Ok}
 use Rattle.kinds.specs.Alphabet.{Alphabet, Lawful}
 use Rattle.kinds.specs.Grammar.{Placed, Position, start, gap-allowed, allowed, behind, Ordered, Digits, followed-by, Number, Gap, Literal, Literals, Run, Alternatives, Range, Says, Says-all}
-use Rattle.kinds.specs.Patterns.{Item, literal, any, group, range, gap}
+use Rattle.kinds.specs.Patterns.{Item, literal, any, group, range, other, gap}
 use Rattle.kinds.specs.Reader.{State, between, alternatives, bracket, low, high, digits, Numeral, least, most, in-front, follow, Reads-exactly}
 use Rattle.kinds.specs.declared.pattern.Direction.the-variants.{FirstOn}
 use Rattle.kinds.proofs.Texts.{pair-leads}
@@ -84,13 +84,15 @@ module _ {E : Type 0} (a : Alphabet E) (law : Lawful a) where
   range-read p true lower upper t (inner, e, (front, rest, cut, h, h′)) =
       let whole : t ≡ codes "[" ++ (front ++ (codes ":" ++ (rest ++ codes "]"))) = e ∙ ap (λ l. 91 ∷ l) (ap (λ l. l ++ codes "]") cut ∙ append-assoc front (codes ":" ++ rest) (codes "]")) in
       rw whole (more (Steps.open-bracket p) (bracket-read lower front (codes ":" ++ (rest ++ codes "]")) (range FirstOn true lower upper) h (colon-read true lower upper rest (h .0) h′)))
-  range-read p false lower upper t (inner, e, inl (front, rest, cut, h, h′)) =
+  range-read p false lower upper t (inner, e, (front, rest, cut, h, h′)) =
       let whole : t ≡ codes "[!" ++ (front ++ (codes ":" ++ (rest ++ codes "]"))) = e ∙ ap (λ l. 91 ∷ 33 ∷ l) (ap (λ l. l ++ codes "]") cut ∙ append-assoc front (codes ":" ++ rest) (codes "]")) in
       rw whole (more (Steps.open-bracket p) (more Steps.exclude
       (low-literals false lower [] front (codes ":" ++ (rest ++ codes "]")) (range FirstOn false lower upper) (h .1) (colon-read false lower upper rest (h .0) h′))))
-  range-read p false lower upper t (inner, e, inr (h, same)) =
-      rw (same, e) (more (Steps.open-bracket p) (more Steps.exclude
-      (low-literals false lower [] inner (codes "]") (range FirstOn false lower lower) (h .1) (ends (Steps.close-low lower (lt-ltb 0 (length lower) (h .0)))))))
+
+  -- what one run leaves out
+  other-read : (p : Position) (run inner : List ℕ) → Run a run inner → Reads a (between p) (codes "[!" ++ (inner ++ codes "]")) (other run)
+  other-read p run inner (long, says) =
+      more (Steps.open-bracket p) (more Steps.exclude (low-literals false run [] inner (codes "]") (other run) says (ends (Steps.close-low run (lt-ltb 0 (length run) long)))))
 
   -- the digits of a number, with k of them read
   digits-read : (n : Numeral) (ds : List ℕ) (k v m : ℕ) (t : List ℕ) (i : Item) → Digits ds → k + length ds ≡ m → m ≤ 4
@@ -123,6 +125,7 @@ module _ {E : Type 0} (a : Alphabet E) (law : Lawful a) where
   item-read p any t ok e = rw e (more (Steps.ask p) (ends Steps.asked-twice))
   item-read p (group runs) t ok (inner, e, two, h) = rw e (more (Steps.open-group p) (alternatives-read [] runs inner h two))
   item-read p (range d inside lower upper) t ok (same, h) = rw same (range-read p inside lower upper t h)
+  item-read p (other run) t ok (inner, e, h) = rw e (other-read p run inner h)
   item-read p (gap lower upper) t ok h = gap-read p lower upper t ok h
 
   -- the reader reads items that are in order and that a text says

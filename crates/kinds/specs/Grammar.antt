@@ -9,7 +9,7 @@ use lib.ListN.{length, take}
 use Rattle.std.specs.declared.option.Option.{Option}
 use Rattle.std.specs.declared.option.Option.the-variants.{Some, None}
 use Rattle.kinds.specs.Alphabet.{Alphabet, within}
-use Rattle.kinds.specs.Patterns.{Item, literal, any, group, range, gap}
+use Rattle.kinds.specs.Patterns.{Item, literal, any, group, range, other, gap}
 use Rattle.kinds.specs.declared.pattern.Direction.the-variants.{FirstOn}
 
 -- an item, and the place in the text where it begins
@@ -64,11 +64,10 @@ module _ {E : Type 0} (a : Alphabet E) where
   abbrev pub Bounds : List ℕ → List ℕ → List ℕ → Type 0
   Bounds low high t = (front : List ℕ) × (rest : List ℕ) × (t ≡ front ++ (codes ":" ++ rest)) × Run low front × Run high rest
 
-  -- [a:b]; [!a:b]; and [!a], which leaves out what lies from a to a
+  -- [a:b] and [!a:b]
   abbrev pub Range : Bool → List ℕ → List ℕ → List ℕ → Type 0
   Range true low high t = (inner : List ℕ) × (t ≡ codes "[" ++ (inner ++ codes "]")) × Bounds low high inner
-  Range false low high t =
-      (inner : List ℕ) × (t ≡ codes "[!" ++ (inner ++ codes "]")) × (Bounds low high inner ⊎ (Run low inner × (high ≡ low)))
+  Range false low high t = (inner : List ℕ) × (t ≡ codes "[!" ++ (inner ++ codes "]")) × Bounds low high inner
 
   -- a text says an item
   abbrev pub Says : Item → List ℕ → Type 0
@@ -76,6 +75,7 @@ module _ {E : Type 0} (a : Alphabet E) where
   Says any t = t ≡ codes "??"
   Says (group runs) t = (inner : List ℕ) × (t ≡ codes "(" ++ (inner ++ codes ")")) × (2 ≤ length runs) × Alternatives runs inner
   Says (range d inside low high) t = (d ≡ FirstOn) × Range inside low high t
+  Says (other run) t = (inner : List ℕ) × (t ≡ codes "[!" ++ (inner ++ codes "]")) × Run run inner
   Says (gap least most) t = Gap least most t
 
   -- a text that begins at a place says placed items, one after the other
@@ -103,6 +103,7 @@ allowed p (literal c) = true
 allowed p any = true
 allowed p (group runs) = true
 allowed p (range d inside low high) = true
+allowed p (other run) = true
 allowed p (gap least most) = gap-allowed p
 
 abbrev pub behind : Item → Position
@@ -110,6 +111,7 @@ behind (literal c) = after-thing
 behind any = after-thing
 behind (group runs) = after-thing
 behind (range d inside low high) = after-thing
+behind (other run) = after-thing
 behind (gap least most) = after-gap
 
 abbrev pub Ordered : Position → List Placed → Type 0

@@ -15,13 +15,15 @@ use Rattle.kinds.specs.declared.pattern.Direction.the-variants.{FirstOn, LastO
 use Rattle.kinds.specs.declared.pattern.Reference.{Reference}
 use Rattle.kinds.specs.declared.pattern.Reference.the-variants.{Front, Back, Anywhere}
 
--- The items of a pattern. A literal, any one element, one of some runs, and a range of runs from the first to the second
--- or (false) what such a range leaves out, are things. A gap has a least length and a greatest, or none.
+-- The items of a pattern. A literal, any one element, one of some runs, a range of runs from the first to the second, or
+-- (false) what such a range leaves out, and what one run leaves out, are things. A gap has a least length and a greatest,
+-- or none.
 pub data Item : Type 0 where
   literal : ℕ → Item
   any : Item
   group : List (List ℕ) → Item
   range : Direction → Bool → List ℕ → List ℕ → Item
+  other : List ℕ → Item
   gap : ℕ → Option ℕ → Item
 
 -- The rule.
@@ -56,6 +58,7 @@ Matches any xs = length xs ≡ 1
 Matches (group runs) xs = Among xs runs
 Matches (range d true low high) xs = (length xs ≡ length low) × Between d low high xs
 Matches (range d false low high) xs = (length xs ≡ length low) × (Between d low high xs → ⊥)
+Matches (other run) xs = (length xs ≡ length run) × (xs ≡ run → ⊥)
 Matches (gap least most) xs = (least ≤ length xs) × AtMost most (length xs)
 
 -- a list is cut, in order, into what the items match
@@ -108,6 +111,7 @@ matches any xs = eqb (length xs) 1
 matches (group runs) xs = among xs runs
 matches (range d true low high) xs = eqb (length xs) (length low) && between d low high xs
 matches (range d false low high) xs = eqb (length xs) (length low) && not (between d low high xs)
+matches (other run) xs = eqb (length xs) (length run) && not (same xs run)
 matches (gap least most) xs = leb least (length xs) && at-most most (length xs)
 
 -- some cut of a list in two has p of its front and q of its rest
@@ -154,6 +158,7 @@ mirrored-item (literal c) = literal c
 mirrored-item any = any
 mirrored-item (group runs) = group (reversed-runs runs)
 mirrored-item (range d inside low high) = range (turned d) inside (reverse low) (reverse high)
+mirrored-item (other run) = other (reverse run)
 mirrored-item (gap least most) = gap least most
 
 abbrev pub mirrored : List Item → List Item

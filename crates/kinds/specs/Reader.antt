@@ -12,7 +12,7 @@ use Rattle.std.specs.declared.result.Result.the-variants.{Ok, Err}
 use Rattle.std.specs.Options.{isSome}
 use Rattle.kinds.specs.Alphabet.{Alphabet, within}
 use Rattle.kinds.specs.Grammar.{Placed, Position, start, after-thing, after-gap, gap-allowed, may-end, behind, Text, Longest}
-use Rattle.kinds.specs.Patterns.{Item, literal, any, group, range, gap}
+use Rattle.kinds.specs.Patterns.{Item, literal, any, group, range, other, gap}
 use Rattle.kinds.specs.declared.pattern.Direction.the-variants.{FirstOn}
 
 -- which number of a gap is being read: the least, or the greatest behind a least that was read
@@ -108,7 +108,7 @@ module _ {E : Type 0} (a : Alphabet E) where
   next bracket c = cond (eqb c 33) (goes-on (low false [])) (pair-in bracket c)
   next (low inside run) c =
       cond (eqb c 58) (only-if (begun run) (goes-on (high inside run [])))
-      (cond (eqb c 93) (only-if (begun run && not inside) (complete (range FirstOn inside run run)))
+      (cond (eqb c 93) (only-if (begun run && not inside) (complete (other run)))
       (pair-in (low inside run) c))
   next (high inside first run) c =
       cond (eqb c 93) (only-if (begun run) (complete (range FirstOn inside first run)))

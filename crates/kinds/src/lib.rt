@@ -9,3 +9,4 @@ pub mod marks;
 pub mod pattern;
 pub mod reading;
 pub mod spelling;
+pub mod theorems;

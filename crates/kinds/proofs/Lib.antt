@@ -1,6 +1,12 @@
 pub mod Decisions
 pub mod Elements
+pub mod Follows
 pub mod Mirrors
 pub mod Places
+pub mod Refusals
+pub mod Sound
 pub mod Spellings
+pub mod Steps
+pub mod Texts
 pub mod Vectors
+pub mod Whole

@@ -1,6 +1,7 @@
 // Element kinds, readings, and their meaning: what the engine is generic over.
 pub mod backward;
 pub mod byte;
+pub mod grammar;
 pub mod held;
 pub mod kind;
 pub mod mark;

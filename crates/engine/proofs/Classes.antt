@@ -27,7 +27,7 @@ use Rattle.engine.specs.declared.token.Gap.{Gap}
 use Rattle.engine.specs.declared.token.Punctuation.{Punctuation}
 use Rattle.engine.specs.declared.token.Token.the-variants as token
 use Rattle.engine.proofs.Gaps.{standing, stands-true, stands-false}
-use Rattle.engine.proofs.Scans.{some-below-at}
+use Rattle.kinds.proofs.Texts.{some-below-decides}
 use Rattle.engine.proofs.Machine.{only-false, only-true, step-by, stops-here}
 
 same-expected : {e f : Expects} → Some e ≡ Some f → e ≡ f
@@ -130,7 +130,7 @@ module _ {E : Type 0} (a : Alphabet E) where
         let first = getD t place 0 in
         let second = getD t (place + 1) 0 in
         let on : place + 1 + 1 ≡ place + 2 = omega arith in
-        let led : leads a first ≡ true = some-below-at (λ d. isSome (a .named first d)) second 256 byte (ap isSome (h .1 .1)) in
+        let led : leads a first ≡ true = some-below-decides (λ d. isSome (a .named first d)) 256 .1 (second, byte, ap isSome (h .1 .1)) in
         record {
           forward = omega arith;
           inside = omega (arith, h .0);

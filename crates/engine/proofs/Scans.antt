@@ -1,16 +1,13 @@
 -- What one turn of the lexer's loops keeps.
-use mathlib.Core.Path.{_≡_, refl, sym, ap, _∙_}
+use mathlib.Core.Path.{_≡_, refl, ap, _∙_}
 use mathlib.Core.Bool.{Bool, true, false, cond}
 use mathlib.Core.List.{List, [], _∷_, _++_}
-use mathlib.Core.Logic.{⊎-elim}
-use Prim.Native.Nat.{ℕ, zero, suc, _+_, _-_, _*_, _^_, _≤_, _<_}
-use native.Mathlib.Nat.{le-refl}
+use Prim.Native.Nat.{ℕ, _+_, _-_, _*_, _≤_, _<_}
 use native.Mathlib.Numerals.{add-one}
 use native.Mathlib.Omega.{arith}
 use lib.ListN.{length, getD, take, drop, length-drop}
 use lib.Seq.{getD-drop}
 use Rattle.std.proofs.shelf.Lists.{take-more}
-use Rattle.std.proofs.shelf.Tests.{cases-order}
 use Rattle.kinds.specs.Alphabet.{within}
 use Rattle.kinds.specs.Grammar.{Digits, followed-by}
 use Rattle.kinds.specs.Reader.{some-below}
@@ -19,20 +16,6 @@ use Rattle.kinds.specs.Reader.{some-below}
 pub none-below-more : (p : ℕ → Bool) (n : ℕ) → some-below p n ≡ false → p n ≡ false → some-below p (n + 1) ≡ false
 unfolding some-below
 none-below-more p n before here = ap (some-below p) (add-one n) ∙ ap (λ b. cond b true (some-below p n)) here ∙ before
-
--- a test that passes at a number passes below every greater one
-pub some-below-at : (p : ℕ → Bool) (k n : ℕ) → k < n → p k ≡ true → some-below p n ≡ true
-unfolding some-below
-some-below-at p k zero h e = absurd (omega arith)
-some-below-at p k (suc n) h e =
-    ⊎-elim
-    (λ same. ap (λ b. cond b true (some-below p n)) (ap p (sym same) ∙ e))
-    (⊎-elim (λ below. go (p n) (some-below-at p k n below e)) (λ above. absurd (omega arith)))
-    (cases-order k n)
-  where
-    go : (b : Bool) → some-below p n ≡ true → cond b true (some-below p n) ≡ true
-    go true e = refl
-    go false e = e
 
 -- one digit more
 pub digits-more : (ds : List ℕ) (d : ℕ) → Digits ds → within 48 57 d ≡ true → Digits (ds ++ d ∷ [])

@@ -1,2 +1,5 @@
+pub mod Faults
+pub mod Reading
 pub mod Scanning
+pub mod Stored
 pub mod Tokens

@@ -1,3 +1,8 @@
 // The engine: it reads pattern texts, compiles them, and searches readings.
+pub mod cause;
+pub mod fault;
 pub mod lexer;
+pub mod part;
+pub mod pattern;
+pub mod run;
 pub mod token;

@@ -1,7 +1,7 @@
 -- Which characters begin a pair: letters and digits, so none of the signs that the grammar has.
-use mathlib.Core.Path.{_≡_, refl, sym, ap, _∙_}
+use mathlib.Core.Path.{_≡_, refl, ap}
 use mathlib.Core.Bool.{Bool, true, false, cond, _||_}
-use Prim.Native.Nat.{ℕ, zero, suc, _<_}
+use Prim.Native.Nat.{ℕ, _<_}
 use native.Mathlib.Omega.{arith}
 use lib.Dec.{eqb}
 use Rattle.std.proofs.shelf.Tests.{ne-eqb}
@@ -11,12 +11,7 @@ use Rattle.std.specs.Orderings.{Decides}
 use Rattle.std.specs.declared.option.Option.{Option}
 use Rattle.std.specs.declared.option.Option.the-variants.{Some, None}
 use Rattle.kinds.specs.Alphabet.{Alphabet, Lawful, alphanumeric}
-use Rattle.kinds.specs.Reader.{leads}
-
--- whether a test passes below a bound, in the order of the reader's search for a second character
-abbrev any-below : (ℕ → Bool) → ℕ → Bool
-any-below p zero = false
-any-below p (suc n) = cond (p n) true (any-below p n)
+use Rattle.kinds.specs.Reader.{leads, some-below}
 
 -- a conditional that is an or
 cond-or : (b c : Bool) → cond b true c ≡ (b || c)
@@ -24,12 +19,9 @@ cond-or true c = refl
 cond-or false c = refl
 
 -- the search finds exactly when there is one
-any-below-decides : (p : ℕ → Bool) (n : ℕ) → Decides (any-below p n) ((k : ℕ) × (k < n) × (p k ≡ true))
-any-below-decides p = decides-below-or p (λ k. p k ≡ true) (any-below p) (λ k. ((λ e. e), (λ e. e))) refl (λ n. cond-or (p n) (any-below p n))
-
--- the reader's own search is this one
-leads-is : {E : Type 0} (a : Alphabet E) (c : ℕ) → leads a c ≡ any-below (λ d. isSome (a .named c d)) 256
-leads-is a c = refl
+pub some-below-decides : (p : ℕ → Bool) (n : ℕ) → Decides (some-below p n) ((k : ℕ) × (k < n) × (p k ≡ true))
+unfolding some-below
+some-below-decides p = decides-below-or p (λ k. p k ≡ true) (some-below p) (λ k. ((λ e. e), (λ e. e))) refl (λ n. cond-or (p n) (some-below p n))
 
 -- an option that is some has its value
 some-from : {E : Type 0} (o : Option E) → isSome o ≡ true → (x : E) × (o ≡ Some x)
@@ -48,7 +40,7 @@ module _ {E : Type 0} (a : Alphabet E) where
   -- a character that leads has a second
   pub second-of : (c : ℕ) → leads a c ≡ true → (d : ℕ) × (x : E) × (a .named c d ≡ Some x)
   second-of c e =
-      let found = any-below-decides (λ d. isSome (a .named c d)) 256 .0 (sym (leads-is a c) ∙ e) in
+      let found = some-below-decides (λ d. isSome (a .named c d)) 256 .0 e in
       let named = some-from (a .named c (found .0)) (found .2) in
       (found .0, named .0, named .1)
 
@@ -56,7 +48,7 @@ module _ {E : Type 0} (a : Alphabet E) where
     -- the first character of a pair leads
     pub pair-leads : (c d : ℕ) (x : E) → a .named c d ≡ Some x → leads a c ≡ true
     pair-leads c d x e =
-        leads-is a c ∙ any-below-decides (λ d. isSome (a .named c d)) 256 .1 (d, below-256 d (law .pair-alphanumeric c d x e .1), ap isSome e)
+        some-below-decides (λ d. isSome (a .named c d)) 256 .1 (d, below-256 d (law .pair-alphanumeric c d x e .1), ap isSome e)
 
     -- a character that leads is a letter or a digit
     pub leads-alphanumeric : (c : ℕ) → leads a c ≡ true → alphanumeric c ≡ true

@@ -4,7 +4,8 @@ use Prim.Native.Nat.{ℕ, _+_}
 use native.Mathlib.Omega.{arith}
 use Rattle.std.specs.Options.{isSome}
 use Rattle.kinds.specs.Reader.{some-below}
-use Rattle.engine.proofs.Scans.{none-below-more, some-below-at}
+use Rattle.kinds.proofs.Texts.{some-below-decides}
+use Rattle.engine.proofs.Scans.{none-below-more}
 use Rattle.engine.proofs.lexer.begins_pair.Needs as need
 
 pub loop-second-holds : need.loop-second-holds
@@ -13,7 +14,7 @@ loop-second-holds g c = refl
 
 pub returns-then-is-some : need.returns-then-is-some
 returns-then-is-some g c =
-    sym (some-below-at (λ d. isSome (g .K·Kind .alphabet .named (c .args .first) d)) (c .loop-second .second) 256 (omega arith) (ap isSome (sym (c .named .ensures)) ∙ sym (c .if-is-some .ensures tt)))
+    sym (some-below-decides (λ d. isSome (g .K·Kind .alphabet .named (c .args .first) d)) 256 .1 (c .loop-second .second, omega arith, ap isSome (sym (c .named .ensures)) ∙ sym (c .if-is-some .ensures tt)))
 
 pub loop-second-again : need.loop-second-again
 loop-second-again g c =

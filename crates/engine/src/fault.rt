@@ -3,6 +3,8 @@ ghost use mathlib.Core.Path.{_≡_};
 ghost use Rattle.engine.specs.Faults.{number};
 ghost use Rattle.engine.specs.declared.cause.Cause.the-variants.{Memory};
 use crate::cause::Cause;
+use crate::cause::CauseDebug;
+use crate::cause::CausePartialEq;
 use std::alloc::AllocError;
 use std::alloc::Refused;
 

@@ -1,3 +1,4 @@
+pub mod Compiled
 pub mod Decisions
 pub mod Elements
 pub mod Follows

@@ -1,6 +1,7 @@
 pub mod Alphabet
 pub mod AxleMarks
 pub mod Bytes
+pub mod Fragments
 pub mod Grammar
 pub mod Patterns
 pub mod Reader

@@ -1,3 +1,4 @@
+pub mod Compiled
 pub mod Faults
 pub mod Limits
 pub mod Reading

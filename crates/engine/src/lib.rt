@@ -1,6 +1,7 @@
 // The engine: it reads pattern texts, compiles them, and searches readings.
 pub mod cause;
 pub mod fault;
+pub mod fragment;
 pub mod lexer;
 pub mod part;
 pub mod pattern;

@@ -22,8 +22,8 @@ read t = elim (items-of byte-alphabet t) [ Ok qs ↦ qs | Err n ↦ [] ]
 abbrev numbers-of : Reference → ℕ → ℕ → ℕ → List Fragment → List (List ℕ)
 numbers-of r i j k [] = []
 numbers-of r i j k (f ∷ fs) =
-    (elim (anchor r (bodies (f .body))) [ Some x ↦ f .break ∷ lead x ∷ length (x .codes) ∷ shift (x .codes) i ∷ shift (x .codes) j ∷ shift (x .codes) k ∷ [] | None ↦ [] ])
-    ∷ numbers-of r i j k fs
+    let x = anchor r (bodies (f .body)) in
+    (f .break ∷ lead x ∷ length (x .codes) ∷ shift (x .codes) i ∷ shift (x .codes) j ∷ shift (x .codes) k ∷ []) ∷ numbers-of r i j k fs
 
 abbrev example : List ℕ
 example = codes "A1A2A3[A4:A5]??B1B2B3(B4|B5)*{5}01??C1C2C3{4-7}D1????F1(F2|F3)F4F5"

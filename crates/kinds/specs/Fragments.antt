@@ -196,14 +196,13 @@ better Front old new = leb (length (old .codes)) (length (new .codes))
 better Back old new = ltb (length (old .codes)) (length (new .codes))
 better Anywhere old new = leb (length (old .codes)) (length (new .codes))
 
-abbrev pub best : Reference → Option Anchor → List Anchor → Option Anchor
-best r found [] = found
-best r None (new ∷ more) = best r (Some new) more
-best r (Some old) (new ∷ more) = best r (Some (cond (better r old new) new old)) more
+abbrev pub best : Reference → Anchor → List Anchor → Anchor
+best r old [] = old
+best r old (new ∷ more) = best r (cond (better r old new) new old) more
 
--- the anchor of a fragment's items
-abbrev pub anchor : Reference → List Item → Option Anchor
-anchor r items = best r None (literal-runs [] [] items)
+-- the anchor of a fragment's items: the best run of literals, or none of the codes where there is no literal
+abbrev pub anchor : Reference → List Item → Anchor
+anchor r items = best r (record { front = items; codes = []; back = [] }) (literal-runs [] [] items)
 
 abbrev pub sum-least : List Item → ℕ
 sum-least [] = 0

@@ -1,4 +1,5 @@
 pub mod Classes
 pub mod Gaps
 pub mod Machine
+pub mod Mirrored
 pub mod Scans

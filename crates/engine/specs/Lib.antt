@@ -5,3 +5,4 @@ pub mod Reading
 pub mod Scanning
 pub mod Stored
 pub mod Tokens
+pub mod Turned

@@ -1,5 +1,6 @@
 -- The definitions of fragments and their numbers, computed on the published worked example and on texts at the limits.
 use mathlib.Core.Path.{_≡_, refl}
+use mathlib.Core.Bool.{true, false}
 use mathlib.Core.List.{List, [], _∷_}
 use Prim.Native.Nat.{ℕ}
 use lib.Chars.{codes}
@@ -12,6 +13,7 @@ use Rattle.kinds.specs.Bytes.{byte-alphabet}
 use Rattle.kinds.specs.Fragments.{Fragment, fragments, limit-place, bare-place, oriented, bodies, anchor, Anchor, lead, shift}
 use Rattle.kinds.specs.Grammar.{Placed}
 use Rattle.kinds.specs.Reader.{items-of, some-below}
+use Rattle.kinds.specs.Search.{found}
 use Rattle.kinds.specs.declared.pattern.Reference.{Reference}
 use Rattle.kinds.specs.declared.pattern.Reference.the-variants.{Front, Back}
 
@@ -48,3 +50,16 @@ beyond = refl
 bare : bare-place (fragments 0 (read (codes "??"))) ≡ Some 0
 unfolding some-below
 bare = refl
+
+-- the search by fragments on two of the examples
+two-gaps-found : found (fragments 0 (read (codes "41{0-3}42{0-1}43"))) 0 (Some 0) (0x41 ∷ 0x42 ∷ 0 ∷ 0x42 ∷ 0x43 ∷ []) ≡ true
+unfolding some-below
+two-gaps-found = refl
+
+two-gaps-missed : found (fragments 0 (read (codes "41{0-3}42{0-1}43"))) 0 (Some 0) (0x41 ∷ 0x42 ∷ 0 ∷ 0 ∷ 0x43 ∷ []) ≡ false
+unfolding some-below
+two-gaps-missed = refl
+
+star-and-two : found (fragments 0 (read (codes "41*{2}42"))) 0 None (0x41 ∷ 0 ∷ 0 ∷ 0x42 ∷ []) ≡ true
+unfolding some-below
+star-and-two = refl

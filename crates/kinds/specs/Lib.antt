@@ -6,4 +6,5 @@ pub mod Grammar
 pub mod Patterns
 pub mod Reader
 pub mod Readings
+pub mod Search
 pub mod Spelling

@@ -5,6 +5,7 @@ pub mod Follows
 pub mod Mirrors
 pub mod Places
 pub mod Refusals
+pub mod Searches
 pub mod Sound
 pub mod Spellings
 pub mod Steps

@@ -2,8 +2,9 @@
 use mathlib.Core.Path.{_≡_, refl, sym, ap, subst, subst₂, _∙_}
 use mathlib.Core.Bool.{Bool, true, false, cond, _&&_, _||_}
 use mathlib.Core.List.{List, [], _∷_, _++_}
-use mathlib.Core.Logic.{_⊎_, inl, inr, ⊎-elim, _↔_}
+use mathlib.Core.Logic.{inl, inr, ⊎-elim, _↔_}
 use Prim.Native.Nat.{ℕ, zero, suc, _+_, _-_, _≤_, _<_}
+use native.Mathlib.Nat.{zero-add}
 use native.Mathlib.Omega.{arith}
 use lib.Dec.{leb}
 use lib.ListN.{length, take, drop}
@@ -16,8 +17,8 @@ use Rattle.std.proofs.shelf.Elements.{all-push}
 use Rattle.std.proofs.shelf.Lists.{append-nil, append-assoc, length-append, length-take, length-drop, take-append-drop, take-at, drop-at, drop-drop, nil-from-length}
 use Rattle.std.proofs.shelf.Tests.{false≢true, both-ways, leb-true, le-leb, ltb-false, cases-bool, cases-lt, or-cases}
 use Rattle.std.proofs.shelf.Ways.{same-from-decides, decides-like, decides-and, decides-below-or}
-use Rattle.kinds.specs.Fragments.{Fragment, fragments, cut-from, bodies, sum, least, some, is-gap, endless, wrong, least-with, wrong-place, fragment-place, limit-place, first-place, span}
-use Rattle.kinds.specs.Grammar.{Placed, Position, start, after-thing, after-gap, may-end, behind, Ordered}
+use Rattle.kinds.specs.Fragments.{Fragment, fragments, cut-from, bodies, sum, least, some, is-gap, endless, wrong, least-with, wrong-place, fragment-place, limit-place, first-place}
+use Rattle.kinds.specs.Grammar.{Placed, Position, start, may-end, behind, Ordered}
 use Rattle.kinds.specs.Patterns.{Item, literal, any, group, range, other, gap, AtMost, Matches, Cut, Allowed, Placement, at-most, cuts, hits}
 use Rattle.kinds.specs.Search.{stretch, ends-at, least-end-from, least-end, found, Found-exactly}
 use Rattle.kinds.specs.declared.pattern.Reference.{Reference}
@@ -72,13 +73,11 @@ spans-parted is js xs s e h =
     let within : m ≤ length xs = omega (arith, h .inside) in
     let both : front ++ rest ≡ stretch xs s m ++ stretch xs m e = sym (stretch-joined xs s m e lower upper ∙ d) in
     let size : length (stretch xs s m) ≡ n = length-stretch xs s m within ∙ omega arith in
-    let first : front ≡ stretch xs s m =
-            sym (take-at front rest n refl) ∙ ap (λ l. take n l) both ∙ take-at (stretch xs s m) (stretch xs m e) n size
-        in
-    let second : rest ≡ stretch xs m e =
-            sym (drop-at front rest n refl) ∙ ap (λ l. drop n l) both ∙ drop-at (stretch xs s m) (stretch xs m e) n size
-        in
-    (m, record { ordered = lower; inside = within; cut = subst (Cut is) first a }, record { ordered = upper; inside = h .inside; cut = subst (Cut js) second b })
+    let first : front ≡ stretch xs s m = sym (take-at front rest n refl) ∙ ap (λ l. take n l) both ∙ take-at (stretch xs s m) (stretch xs m e) n size in
+    let second : rest ≡ stretch xs m e = sym (drop-at front rest n refl) ∙ ap (λ l. drop n l) both ∙ drop-at (stretch xs s m) (stretch xs m e) n size in
+    let before : Spans is xs s m = record { ordered = lower; inside = within; cut = subst (Cut is) first a } in
+    let behind : Spans js xs m e = record { ordered = upper; inside = h .inside; cut = subst (Cut js) second b } in
+    (m, before, behind)
 
 -- Least ends.
 
@@ -143,9 +142,13 @@ module _ (items : List Item) (from : ℕ) (until : Option ℕ) (xs : List ℕ) w
       go true y more = (test .0 y, below)
       go false n more = more (past n)
 
-  -- the least end that is looked for is the least
+  -- the search for the least end finds the least
   pub least-end-exactly : Least-end items from until xs (least-end items from until xs)
   least-end-exactly = least-from (suc (length xs)) 0 (omega arith) (λ _ _. omega arith)
+
+  -- so what the search says holds
+  pub least-end-says : (r : Option ℕ) → least-end items from until xs ≡ r → Least-end items from until xs r
+  least-end-says r e = subst (Least-end items from until xs) e least-end-exactly
 
   -- there is one least end
   pub least-end-unique : (r r′ : Option ℕ) → Least-end items from until xs r → Least-end items from until xs r′ → r ≡ r′
@@ -155,7 +158,7 @@ module _ (items : List Item) (from : ℕ) (until : Option ℕ) (xs : List ℕ) w
   least-end-unique (Some e) (Some e′) h h′ =
       let same : e ≡ e′ = omega (arith, h .1 e′ (h′ .0), h′ .1 e (h .0)) in ap Some same
 
-  -- so what is the least end is what is looked for
+  -- so what is the least end is what the search says
   pub least-end-is : (r : Option ℕ) → Least-end items from until xs r → r ≡ least-end items from until xs
   least-end-is r h = least-end-unique r (least-end items from until xs) h least-end-exactly
 
@@ -165,61 +168,73 @@ module _ (items : List Item) (from : ℕ) (until : Option ℕ) (xs : List ℕ) w
 abbrev pub Plain : Placed → Type 0
 Plain q = (is-gap (q .item) ≡ true) × (wrong (q .item) ≡ false)
 
+-- what holds of every gap holds of an item that is one
+of-gap : (P : Item → Type 0) → ((l : ℕ) (n : Option ℕ) → P (gap l n)) → (i : Item) → is-gap i ≡ true → P i
+of-gap P each (literal c) y = absurd (false≢true y)
+of-gap P each any y = absurd (false≢true y)
+of-gap P each (group runs) y = absurd (false≢true y)
+of-gap P each (range d inside low high) y = absurd (false≢true y)
+of-gap P each (other run) y = absurd (false≢true y)
+of-gap P each (gap l n) y = each l n
+
 -- a gap takes its least length or more
-gap-least : (i : Item) (xs : List ℕ) → is-gap i ≡ true → Matches i xs → least i ≤ length xs
-gap-least (literal c) xs y m = absurd (false≢true y)
-gap-least any xs y m = absurd (false≢true y)
-gap-least (group runs) xs y m = absurd (false≢true y)
-gap-least (range d inside low high) xs y m = absurd (false≢true y)
-gap-least (other run) xs y m = absurd (false≢true y)
-gap-least (gap l n) xs y m = m .0
+gap-least : (i : Item) → is-gap i ≡ true → (xs : List ℕ) → Matches i xs → least i ≤ length xs
+gap-least = of-gap _ (λ l n xs m. m .0)
 
 -- a gap that is not wrong takes its least length
-gap-exact : (i : Item) (xs : List ℕ) → is-gap i ≡ true → wrong i ≡ false → length xs ≡ least i → Matches i xs
-gap-exact (literal c) xs y n e = absurd (false≢true y)
-gap-exact any xs y n e = absurd (false≢true y)
-gap-exact (group runs) xs y n e = absurd (false≢true y)
-gap-exact (range d inside low high) xs y n e = absurd (false≢true y)
-gap-exact (other run) xs y n e = absurd (false≢true y)
-gap-exact (gap l None) xs y n e = (omega arith, tt)
-gap-exact (gap l (Some m)) xs y n e = let right : l ≤ m = ltb-false m l n in (omega arith, omega arith)
+gap-exact : (i : Item) → is-gap i ≡ true → (xs : List ℕ) → wrong i ≡ false → length xs ≡ least i → Matches i xs
+gap-exact = of-gap _ go
+  where
+    go : (l : ℕ) (n : Option ℕ) (xs : List ℕ) → wrong (gap l n) ≡ false → length xs ≡ l → Matches (gap l n) xs
+    go l None xs ok e = (omega arith, tt)
+    go l (Some m) xs ok e = let fits : l ≤ m = ltb-false m l ok in (omega arith, omega arith)
 
 -- a gap without upper end takes whatever is not shorter
-gap-endless : (i : Item) (xs : List ℕ) → endless i ≡ true → least i ≤ length xs → Matches i xs
-gap-endless (literal c) xs y h = absurd (false≢true y)
-gap-endless any xs y h = absurd (false≢true y)
-gap-endless (group runs) xs y h = absurd (false≢true y)
-gap-endless (range d inside low high) xs y h = absurd (false≢true y)
-gap-endless (other run) xs y h = absurd (false≢true y)
-gap-endless (gap l None) xs y h = (h, tt)
-gap-endless (gap l (Some m)) xs y h = absurd (false≢true y)
+gap-endless : (i : Item) → is-gap i ≡ true → (xs : List ℕ) → endless i ≡ true → least i ≤ length xs → Matches i xs
+gap-endless = of-gap _ go
+  where
+    go : (l : ℕ) (n : Option ℕ) (xs : List ℕ) → endless (gap l n) ≡ true → l ≤ length xs → Matches (gap l n) xs
+    go l None xs y h = (h, tt)
+    go l (Some m) xs y h = absurd (false≢true y)
+
+-- no pattern ends behind a gap
+gap-goes-on : (i : Item) → is-gap i ≡ true → may-end (behind i) ≡ false
+gap-goes-on = of-gap _ (λ l n. refl)
 
 -- a row of gaps takes the sum of their least lengths or more
 row-least : (row : List Placed) (xs : List ℕ) → All Plain row → Cut (bodies row) xs → sum least row ≤ length xs
 row-least [] xs gaps c = omega arith
-row-least (q ∷ qs) xs ((y, n), gaps) (front, rest, e, m, c) =
-    omega (arith, ap length e ∙ length-append front rest, gap-least (q .item) front y m, row-least qs rest gaps c)
+row-least (q ∷ qs) xs ((y, ok), gaps) (front, rest, e, m, c) =
+    omega (arith, ap length e ∙ length-append front rest, gap-least (q .item) y front m, row-least qs rest gaps c)
 
--- what stands in front of a cut, then the cut
+-- an item in front of a cut
 cut-behind : (i : Item) (is : List Item) (xs : List ℕ) (k : ℕ) → Matches i (take k xs) → Cut is (drop k xs) → Cut (i ∷ is) xs
 cut-behind i is xs k m c = (take k xs, drop k xs, sym (take-append-drop k xs), m, c)
 
--- it takes just that sum
+-- if none is wrong, it takes just that sum
 row-exact : (row : List Placed) (xs : List ℕ) → All Plain row → length xs ≡ sum least row → Cut (bodies row) xs
 row-exact [] xs gaps e = nil-from-length xs e
-row-exact (q ∷ qs) xs ((y, n), gaps) e =
+row-exact (q ∷ qs) xs ((y, ok), gaps) e =
     let k = least (q .item) in
-    cut-behind (q .item) (bodies qs) xs k (gap-exact (q .item) (take k xs) y n (simp length-take (omega arith))) (row-exact qs (drop k xs) gaps (simp length-drop (omega arith)))
+    let size : length (take k xs) ≡ k = simp length-take (omega arith) in
+    let rest : length (drop k xs) ≡ sum least qs = simp length-drop (omega arith) in
+    cut-behind (q .item) (bodies qs) xs k (gap-exact (q .item) y (take k xs) ok size) (row-exact qs (drop k xs) gaps rest)
 
--- with a gap without upper end it takes whatever is not shorter
+-- and if one has no upper end, whatever is not shorter
 row-endless : (row : List Placed) (xs : List ℕ) → All Plain row → some endless row ≡ true → sum least row ≤ length xs → Cut (bodies row) xs
 row-endless [] xs gaps y h = absurd (false≢true y)
-row-endless (q ∷ qs) xs ((g, n), gaps) y h =
-    let k = least (q .item) in
-    let more = length xs - sum least qs in
+row-endless (q ∷ qs) xs ((g, ok), gaps) y h =
     elim (or-cases (endless (q .item)) (some endless qs) y) [
-      | inl here ↦ cut-behind (q .item) (bodies qs) xs more (gap-endless (q .item) (take more xs) here (simp length-take (omega arith))) (row-exact qs (drop more xs) gaps (simp length-drop (omega arith)))
-      | inr later ↦ cut-behind (q .item) (bodies qs) xs k (gap-exact (q .item) (take k xs) g n (simp length-take (omega arith))) (row-endless qs (drop k xs) gaps later (simp length-drop (omega arith)))
+      | inl here ↦
+          let k = length xs - sum least qs in
+          let size : least (q .item) ≤ length (take k xs) = simp length-take (omega arith) in
+          let rest : length (drop k xs) ≡ sum least qs = simp length-drop (omega arith) in
+          cut-behind (q .item) (bodies qs) xs k (gap-endless (q .item) g (take k xs) here size) (row-exact qs (drop k xs) gaps rest)
+      | inr later ↦
+          let k = least (q .item) in
+          let size : length (take k xs) ≡ k = simp length-take (omega arith) in
+          let rest : sum least qs ≤ length (drop k xs) = simp length-drop (omega arith) in
+          cut-behind (q .item) (bodies qs) xs k (gap-exact (q .item) g (take k xs) ok size) (row-endless qs (drop k xs) gaps later rest)
     ]
 
 -- so between two places that far apart the row spans what stands there
@@ -289,15 +304,6 @@ module _ (break : ℕ) (body row : List Placed) (q : Placed) (qs : List Placed) 
       → cut-from break body row (q ∷ qs) ≡ cut-from break (body ++ (row ++ q ∷ [])) [] qs
   cut-held n m = rw (n, m, cut-from)
 
--- no pattern ends behind a gap
-gap-goes-on : (i : Item) → is-gap i ≡ true → may-end (behind i) ≡ false
-gap-goes-on (literal c) y = absurd (false≢true y)
-gap-goes-on any y = absurd (false≢true y)
-gap-goes-on (group runs) y = absurd (false≢true y)
-gap-goes-on (range d inside low high) y = absurd (false≢true y)
-gap-goes-on (other run) y = absurd (false≢true y)
-gap-goes-on (gap l n) y = refl
-
 -- an item that is not wrong
 abbrev pub Right : Placed → Type 0
 Right q = wrong (q .item) ≡ false
@@ -323,9 +329,12 @@ somewhere-parted : (ps row qs : List Placed) (from : ℕ) (until : Option ℕ) (
     → (m : ℕ) × Ends (bodies ps) from until xs m × Somewhere qs (m + sum least row) None xs
 somewhere-parted ps row qs from until xs gaps (e, h) =
     let items : bodies (ps ++ (row ++ qs)) ≡ bodies ps ++ (bodies row ++ bodies qs) = simp bodies-append in
-    let (m, first, more) = spans-parted (bodies ps) (bodies row ++ bodies qs) xs (h .begins) e (subst (λ l. Spans l xs (h .begins) e) items (h .spans)) in
+    let all = subst (λ l. Spans l xs (h .begins) e) items (h .spans) in
+    let (m, first, more) = spans-parted (bodies ps) (bodies row ++ bodies qs) xs (h .begins) e all in
     let (n, between, last) = spans-parted (bodies row) (bodies qs) xs m e more in
-    (m, record { begins = h .begins; late = h .late; early = h .early; spans = first }, (e, record { begins = n; late = row-apart row xs m n gaps between; early = tt; spans = last }))
+    let front : Ends (bodies ps) from until xs m = record { begins = h .begins; late = h .late; early = h .early; spans = first } in
+    let back : Ends (bodies qs) (m + sum least row) None xs e = record { begins = n; late = row-apart row xs m n gaps between; early = tt; spans = last } in
+    (m, front, (e, back))
 
 -- the fragments of some items lie one behind the other exactly when the items have a placement
 chain-exactly : (qs : List Placed) (p : Position) (break at : ℕ) (until : Option ℕ) (xs : List ℕ) (body row : List Placed)
@@ -349,9 +358,10 @@ chain-exactly (q ∷ qs) p break at until xs body row (fits, order) none gaps (o
                 let more = λ (e : ℕ). chain-exactly qs (behind (q .item)) (sum least row) e None xs (q ∷ []) [] order (λ _. refl) tt right in
                 subst
                 (λ fs. Chain fs at until xs ↔ Somewhere (body ++ (row ++ q ∷ qs)) (at + break) until xs)
-                (sym (cut-thing break body row q qs n y))
-                (λ h. somewhere-joined body row (q ∷ qs) (at + break) until xs (h .0) (h .1) gaps y (more (h .0) .0 (h .2)),
-                λ h. let (m, first, last) = somewhere-parted body row (q ∷ qs) (at + break) until xs gaps h in (m, first, more m .1 last))
+                (sym (cut-thing break body row q qs n y)) (
+                  λ h. somewhere-joined body row (q ∷ qs) (at + break) until xs (h .0) (h .1) gaps y (more (h .0) .0 (h .2)),
+                  λ h. let (m, first, last) = somewhere-parted body row (q ∷ qs) (at + break) until xs gaps h in (m, first, more m .1 last),
+                )
             | inr m ↦
                 subst₂
                 (λ fs l. Chain fs at until xs ↔ Somewhere l (at + break) until xs)
@@ -390,24 +400,26 @@ limits-right qs e = wrong-none qs None (fragments-none (fragments 0 qs) 0 (wrong
 
 -- within the limits the search finds exactly what has a placement
 pub found-somewhere : (qs : List Placed) (lo : ℕ) (until : Option ℕ) (xs : List ℕ) → Ordered start qs → limit-place qs ≡ None
-    → Decides (found (fragments lo qs) 0 until xs) (Somewhere qs (0 + lo) until xs)
+    → Decides (found (fragments lo qs) 0 until xs) (Somewhere qs lo until xs)
 found-somewhere qs lo until xs order within =
     let (there, back) = chain-exactly qs start lo 0 until xs [] [] order (λ _. refl) tt (limits-right qs within) in
-    decides-like _ there back (found-decides (fragments lo qs) 0 until xs)
+    subst
+    (λ n. Decides (found (fragments lo qs) 0 until xs) (Somewhere qs n until xs))
+    (zero-add lo)
+    (decides-like (found (fragments lo qs) 0 until xs) there back (found-decides (fragments lo qs) 0 until xs))
 
 -- a span, with what may stand before and after it, is a placement
 pub spans-placement : (r : Reference) (lo hi : ℕ) (items : List Item) (xs : List ℕ) (s e : ℕ)
     → Spans items xs s e → Allowed r lo hi s (length xs - e) → Placement r lo hi items xs
 spans-placement r lo hi items xs s e h ok =
     let there : s + (e - s) ≡ e = omega (arith, h .ordered) in
+    let rest : stretch xs s e ++ drop (s + (e - s)) xs ≡ drop s xs = ap (λ l. stretch xs s e ++ l) (sym (drop-drop (e - s) s xs)) ∙ take-append-drop (e - s) (drop s xs) in
     let before : length (take s xs) ≡ s = simp length-take (omega (arith, h .ordered, h .inside)) in
     record {
       before = take s xs;
       stretch = stretch xs s e;
       after = drop e xs;
-      whole =
-          sym (take-append-drop s xs)
-          ∙ ap (λ l. take s xs ++ l) (sym (take-append-drop (e - s) (drop s xs)) ∙ ap (λ l. stretch xs s e ++ l) (drop-drop (e - s) s xs ∙ ap (λ n. drop n xs) there));
+      whole = sym (take-append-drop s xs) ∙ ap (λ l. take s xs ++ l) (sym rest ∙ ap (λ n. stretch xs s e ++ drop n xs) there);
       allowed = subst₂ (Allowed r lo hi) (sym before) (sym (length-drop e xs)) ok;
       cut = h .cut;
     }
@@ -419,37 +431,36 @@ placement-spans r lo hi items xs p =
     let part = p .stretch in
     let s = length (p .before) in
     let e = s + length part in
-    let size : length xs ≡ s + (length part + length (p .after)) =
-            ap length (p .whole) ∙ length-append (p .before) (part ++ p .after) ∙ ap (λ n. s + n) (length-append part (p .after))
-        in
+    let size : length xs ≡ s + (length part + length (p .after)) = ap length (p .whole) ∙ simp length-append in
     let rest : length (p .after) ≡ length xs - e = omega arith in
-    let same : stretch xs s e ≡ part =
-            ap (λ l. take (e - s) (drop s l)) (p .whole)
-            ∙ ap (λ l. take (e - s) l) (drop-at (p .before) (part ++ p .after) s refl)
-            ∙ take-at part (p .after) (e - s) (omega arith)
-        in
-    (s, e, record { ordered = omega arith; inside = omega arith; cut = subst (Cut items) (sym same) (p .cut) }, subst (Allowed r lo hi s) rest (p .allowed))
+    let later : drop s xs ≡ part ++ p .after = ap (λ l. drop s l) (p .whole) ∙ drop-at (p .before) (part ++ p .after) s refl in
+    let same : part ≡ stretch xs s e = sym (ap (λ l. take (e - s) l) later ∙ take-at part (p .after) (e - s) (omega arith)) in
+    let spans : Spans items xs s e = record { ordered = omega arith; inside = omega arith; cut = subst (Cut items) same (p .cut) } in
+    (s, e, spans, subst (Allowed r lo hi s) rest (p .allowed))
 
 -- where the bounds on the start are what may stand before, the search decides as the rule does
 found-hits : (r : Reference) (lo hi : ℕ) (qs : List Placed) (from : ℕ) (until : Option ℕ) (xs : List ℕ)
-    → Ordered start qs → limit-place qs ≡ None → ((s after : ℕ) → ((0 + from ≤ s) × AtMost until s) ↔ Allowed r lo hi s after)
+    → Ordered start qs → limit-place qs ≡ None → ((s after : ℕ) → ((from ≤ s) × AtMost until s) ↔ Allowed r lo hi s after)
     → found (fragments from qs) 0 until xs ≡ hits r lo hi (bodies qs) xs
 found-hits r lo hi qs from until xs order within bounds =
     same-from-decides
     (found (fragments from qs) 0 until xs)
     (hits r lo hi (bodies qs) xs)
-    (decides-like
-    _
-    (λ (e, h). spans-placement r lo hi (bodies qs) xs (h .begins) e (h .spans) (bounds (h .begins) (length xs - e) .0 (h .late, h .early)))
-    (λ h.
-      let (s, e, spans, ok) = placement-spans r lo hi (bodies qs) xs h in
-      let (late, early) = bounds s (length xs - e) .1 ok in
-      (e, record { begins = s; late = late; early = early; spans = spans }))
-    (found-somewhere qs from until xs order within))
+    (decides-like _ there back (found-somewhere qs from until xs order within))
     (hits-exactly r lo hi (bodies qs) xs)
+  where
+    there : Somewhere qs from until xs → Placement r lo hi (bodies qs) xs
+    there (e, h) = spans-placement r lo hi (bodies qs) xs (h .begins) e (h .spans) (bounds (h .begins) (length xs - e) .0 (h .late, h .early))
+
+    back : Placement r lo hi (bodies qs) xs → Somewhere qs from until xs
+    back h =
+        let (s, e, spans, ok) = placement-spans r lo hi (bodies qs) xs h in
+        let (late, early) = bounds s (length xs - e) .1 ok in
+        (e, record { begins = s; late = late; early = early; spans = spans })
 
 -- within the limits, searching by fragments decides as the rule does
 pub found-exactly : Found-exactly
-found-exactly qs lo hi xs order within =
-    (found-hits Front lo hi qs lo (Some hi) xs order within (λ s after. (λ h. omega arith, λ h. omega arith)),
-    found-hits Anywhere 0 0 qs 0 None xs order within (λ s after. (λ _. tt, λ _. (omega arith, tt))))
+found-exactly qs lo hi xs order within = (
+  found-hits Front lo hi qs lo (Some hi) xs order within (λ s after. (λ h. omega arith, λ h. omega arith)),
+  found-hits Anywhere 0 0 qs 0 None xs order within (λ s after. (λ _. tt, λ _. (omega arith, tt))),
+)

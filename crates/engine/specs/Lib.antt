@@ -3,4 +3,5 @@ pub mod Limits
 pub mod Reading
 pub mod Scanning
 pub mod Stored
+pub mod Tallies
 pub mod Tokens

@@ -2,6 +2,7 @@
 pub mod cause;
 pub mod fault;
 pub mod lexer;
+pub mod limits;
 pub mod part;
 pub mod pattern;
 pub mod run;

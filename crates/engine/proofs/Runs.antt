@@ -1,12 +1,12 @@
 -- What holds of stored runs: where they lie, how long they are, and how two of them compare.
-use mathlib.Core.Path.{_≡_, refl, sym, ap, ap₂, subst, _∙_}
-use mathlib.Core.Bool.{Bool, true, false, not, _&&_}
+use mathlib.Core.Path.{_≡_, refl, sym, ap, ap₂, _∙_}
+use mathlib.Core.Bool.{Bool, true, not, _&&_}
 use mathlib.Core.List.{List, [], _∷_, map, reverse}
-use Prim.Native.Nat.{ℕ, suc, zero, min, max, _+_, _-_, _≤_, _<_}
+use Prim.Native.Nat.{ℕ, suc, zero, max, _+_, _-_, _<_}
 use native.Mathlib.Omega.{arith}
-use lib.Dec.{eqb, leb, ltb}
+use lib.Dec.{eqb, ltb}
 use lib.ListN.{length, getD, take, drop, length-take, length-drop}
-use Rattle.std.proofs.shelf.Lists.{at-drop-more, drop-more, getD-reverse, length-reverse, reverse-reverse}
+use Rattle.std.proofs.shelf.Lists.{drop-more, getD-reverse, length-reverse, reverse-reverse}
 use Rattle.std.proofs.shelf.Tests.{and-parts, leb-true}
 use Rattle.std.proofs.shelf.Ways.{same-from-decides, decides-like, tells}
 use Rattle.kinds.specs.Fragments.{longest, before}
@@ -25,6 +25,7 @@ use Rattle.engine.specs.declared.run.Run.{Run}
 pub run-length : (codes : List ℕ) (r : Run) → run-within codes r ≡ true → length (run-codes codes r) ≡ r .len
 run-length codes r h = let fits = leb-true (r .start + r .len) (length codes) h in simp (length-take, length-drop) (omega arith)
 
+-- the later runs lie within where all do
 pub runs-within-drop : (codes : List ℕ) (n : ℕ) (rs : List Run) → runs-within codes rs ≡ true → runs-within codes (drop n rs) ≡ true
 runs-within-drop codes zero rs h = h
 runs-within-drop codes (suc n) [] h = refl
@@ -56,6 +57,7 @@ abbrev pub position : Direction → ℕ → ℕ → ℕ
 position FirstOn n i = i
 position LastOn n i = n - 1 - i
 
+-- reversed lists are the same where the lists are
 same-reversed : (xs ys : List ℕ) → same (reverse xs) (reverse ys) ≡ same xs ys
 same-reversed xs ys =
     same-from-decides
@@ -64,14 +66,17 @@ same-reversed xs ys =
     (decides-like (same (reverse xs) (reverse ys)) (λ e. sym (reverse-reverse xs) ∙ ap reverse e ∙ reverse-reverse ys) (ap reverse) (same-decides (reverse xs) (reverse ys)))
     (same-decides xs ys)
 
+-- and so are lists as they are compared
 same-compared : (d : Direction) (xs ys : List ℕ) → same (compared d xs) (compared d ys) ≡ same xs ys
 same-compared FirstOn xs ys = refl
 same-compared LastOn xs ys = same-reversed xs ys
 
+-- a list as it is compared is as long
 pub length-compared : (d : Direction) (xs : List ℕ) → length (compared d xs) ≡ length xs
 length-compared FirstOn xs = refl
 length-compared LastOn xs = length-reverse xs
 
+-- the code that is compared after i codes
 compared-at : (d : Direction) (xs : List ℕ) (i : ℕ) → i < length xs → getD (compared d xs) i 0 ≡ getD xs (position d (length xs) i) 0
 compared-at FirstOn xs i h = refl
 compared-at LastOn xs i h = getD-reverse xs i 0 h
@@ -82,13 +87,17 @@ before-strictly d xs ys h =
     ap (λ b. up-to (compared d xs) (compared d ys) && not b) (same-compared d xs ys)
     ∙ (let e : eqb (length xs) (length ys) ≡ true = grind (arith, tells) in ap (λ b. (b && up-to (compared d xs) (compared d ys)) && not (same xs ys)) (sym e))
 
+-- equal first codes leave the order to the rest
 strictly-equal : (x y : ℕ) (xs ys : List ℕ) → x ≡ y → strictly (x ∷ xs) (y ∷ ys) ≡ strictly xs ys
 strictly-equal x y xs ys h = grind (arith, tells)
 
+-- first codes that differ decide the order
 strictly-apart : (x y : ℕ) (xs ys : List ℕ) → (x ≡ y → ⊥) → strictly (x ∷ xs) (y ∷ ys) ≡ ltb x y
 strictly-apart x y xs ys h = grind (arith, tells)
 
+-- a comparison of two lists of one length, after i codes
 module _ (d : Direction) (xs ys : List ℕ) (level : length xs ≡ length ys) (i : ℕ) (inside : i < length xs) where
+  -- the codes of this turn stand in front of the rest
   opened : strictly (drop i (compared d xs)) (drop i (compared d ys))
       ≡ strictly (getD xs (position d (length xs) i) 0 ∷ drop (i + 1) (compared d xs)) (getD ys (position d (length xs) i) 0 ∷ drop (i + 1) (compared d ys))
   opened =
@@ -99,12 +108,12 @@ module _ (d : Direction) (xs ys : List ℕ) (level : length xs ≡ length ys) (i
       (drop-more (compared d xs) i 0 (omega arith) ∙ ap (λ c. c ∷ drop (i + 1) (compared d xs)) (compared-at d xs i inside))
       (drop-more (compared d ys) i 0 (omega arith) ∙ ap (λ c. c ∷ drop (i + 1) (compared d ys)) at)
 
-  -- equal codes leave the order to the rest
+  -- equal codes leave the order to what is left
   pub order-goes-on : getD xs (position d (length xs) i) 0 ≡ getD ys (position d (length xs) i) 0
       → strictly (drop i (compared d xs)) (drop i (compared d ys)) ≡ strictly (drop (i + 1) (compared d xs)) (drop (i + 1) (compared d ys))
   order-goes-on h = opened ∙ strictly-equal _ _ (drop (i + 1) (compared d xs)) (drop (i + 1) (compared d ys)) h
 
-  -- the first codes that differ decide it
+  -- codes that differ decide it
   pub order-decided : (getD xs (position d (length xs) i) 0 ≡ getD ys (position d (length xs) i) 0 → ⊥)
       → strictly (drop i (compared d xs)) (drop i (compared d ys)) ≡ ltb (getD xs (position d (length xs) i) 0) (getD ys (position d (length xs) i) 0)
   order-decided h = opened ∙ strictly-apart _ _ (drop (i + 1) (compared d xs)) (drop (i + 1) (compared d ys)) h

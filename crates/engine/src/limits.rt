@@ -1,14 +1,14 @@
 // Refuses patterns that are beyond the limits or have a fragment without a literal, and counts fragments.
 ghost use mathlib.Core.Bool.{true};
 ghost use mathlib.Core.Path.{_≡_};
-ghost use Prim.Native.Nat.{_+_, _-_, _^_, _≤_, _<_};
+ghost use Prim.Native.Nat.{_-_, _^_, _<_};
 ghost use lib.ListN.{length};
 ghost use Rattle.engine.specs.Limits.{refusal};
 ghost use Rattle.engine.specs.Reading.{held};
 ghost use Rattle.engine.specs.Stored.{run-codes, item-of, placed-of, run-within, part-within};
-ghost use Rattle.engine.specs.Tallies.{longest-run, nothing, single, together, untouched, closed, judged, with-gap, with-thing, stepped, tallied};
-ghost use Rattle.kinds.specs.Fragments.{span as spanned, fragments, before, wrong, least-with};
-ghost use Rattle.std.specs.Of.Vec.{vec-items, vec-len};
+ghost use Rattle.engine.specs.Tallies.{longest-run, single, joined, initial, smallest-with, closed, with-gap, with-thing, with-item, tallied};
+ghost use Rattle.kinds.specs.Fragments.{span as spanned, fragments, before, wrong};
+ghost use Rattle.std.specs.Of.Vec.{vec-items};
 use crate::cause::Cause;
 use crate::part::Part;
 use crate::part::PlacedPart;
@@ -124,11 +124,12 @@ fn is_wrong(pattern: &Pattern, part: Part) -> bool
     }
 }
 
-// The smaller of a place and one that was found before.
-fn smaller(found: Option<usize>, place: usize) -> Option<usize>
-    ensures { λ r. ⌜ r ≡ least-with found place ⌝ }
+// The smallest place beyond a limit: one that was found before, or this one where it is beyond.
+fn smallest(found: Option<usize>, beyond: bool, place: usize) -> Option<usize>
+    ensures { λ r. ⌜ r ≡ smallest-with found beyond place ⌝ }
 {
     match found {
+        _ if !beyond => found,
         Some(earlier) => Some(earlier.min(place)),
         None => Some(place),
     }
@@ -136,7 +137,7 @@ fn smaller(found: Option<usize>, place: usize) -> Option<usize>
 
 impl Stretch {
     // No items.
-    const NOTHING: Stretch = Stretch {
+    const EMPTY: Stretch = Stretch {
         start: None,
         span: 0,
         literal: false,
@@ -158,7 +159,7 @@ impl Stretch {
 
     // These items and those that follow them.
     fn followed_by(self, next: Stretch) -> Stretch
-        ensures { λ r. ⌜ r ≡ together self next ⌝ }
+        ensures { λ r. ⌜ r ≡ joined self next ⌝ }
     {
         Stretch {
             start: self.start.or(next.start),
@@ -171,10 +172,10 @@ impl Stretch {
 
 impl Tally {
     // Before the first item.
-    const UNTOUCHED: Tally = Tally {
+    const INITIAL: Tally = Tally {
         ended: 0,
-        body: Stretch::NOTHING,
-        row: Stretch::NOTHING,
+        body: Stretch::EMPTY,
+        row: Stretch::EMPTY,
         limit: None,
         bare: None,
     };
@@ -185,11 +186,7 @@ impl Tally {
         ensures { λ r. ⌜ r ≡ closed self ⌝ }
     {
         let start = self.body.start.unwrap_or(0);
-        let limit = if self.ended >= MOST_FRAGMENTS || self.body.span > LONGEST_SPAN {
-            smaller(self.limit, start)
-        } else {
-            self.limit
-        };
+        let beyond = self.ended >= MOST_FRAGMENTS || self.body.span > LONGEST_SPAN;
         let bare = if self.body.literal {
             self.bare
         } else {
@@ -197,9 +194,9 @@ impl Tally {
         };
         Tally {
             ended: self.ended + 1,
-            body: Stretch::NOTHING,
-            row: Stretch::NOTHING,
-            limit,
+            body: Stretch::EMPTY,
+            row: Stretch::EMPTY,
+            limit: smallest(self.limit, beyond, start),
             bare,
         }
     }
@@ -227,24 +224,22 @@ impl Tally {
         } else {
             Tally {
                 body: self.body.followed_by(self.row).followed_by(thing),
-                row: Stretch::NOTHING,
+                row: Stretch::EMPTY,
                 ..self
             }
         }
     }
 
     // One more item.
-    fn with(self, pattern: &Pattern, part: PlacedPart) -> Tally
+    fn with_item(self, pattern: &Pattern, part: PlacedPart) -> Tally
         requires ended { ⌜ self .ended < 2 ^ 64 - 1 ⌝ }
         requires inside { ⌜ part-within (vec-items (now pattern .codes)) (vec-items (now pattern .runs)) (part .part) ≡ true ⌝ }
-        ensures { λ r. ⌜ r ≡ stepped self (placed-of (vec-items (now (pattern .entry) .codes)) (vec-items (now (pattern .entry) .runs)) part) ⌝ }
+        ensures { λ r. ⌜ r ≡ with-item self (placed-of (vec-items (now (pattern .entry) .codes)) (vec-items (now (pattern .entry) .runs)) part) ⌝ }
     {
-        let limit = if is_wrong(pattern, part.part) {
-            smaller(self.limit, part.place)
-        } else {
-            self.limit
+        let judged = Tally {
+            limit: smallest(self.limit, is_wrong(pattern, part.part), part.place),
+            ..self
         };
-        let judged = Tally { limit, ..self };
         let item = Stretch::of(pattern, part);
         match part.part {
             Part::Gap(_) => judged.with_gap(item),
@@ -254,22 +249,22 @@ impl Tally {
 }
 
 // What is kept of all items, the last fragment ended.
-fn whole(pattern: &Pattern) -> Tally
-    ensures { λ r. ⌜ r ≡ closed (tallied untouched (held (now (pattern .entry)))) ⌝ }
+fn tally_of(pattern: &Pattern) -> Tally
+    ensures { λ r. ⌜ r ≡ closed (tallied initial (held (now (pattern .entry)))) ⌝ }
 {
-    let mut tally = Tally::UNTOUCHED;
+    let mut tally = Tally::INITIAL;
     for part in pattern.parts.as_slice() {
-        tally = tally.with(pattern, *part);
+        tally = tally.with_item(pattern, *part);
     }
     tally.close()
 }
 
-// Why and where a pattern of the grammar is refused: the first limit that it passes, else its first fragment without a
-// literal. None where it is taken.
-pub fn refused(pattern: &Pattern) -> Option<(Cause, usize)>
+// Why and where a pattern of the grammar is refused: at the smallest place beyond a limit, else at the first fragment
+// without a literal. None where it is not refused.
+pub fn refusal(pattern: &Pattern) -> Option<(Cause, usize)>
     ensures { λ r. ⌜ r ≡ refusal (held (now (pattern .entry))) ⌝ }
 {
-    let tally = whole(pattern);
+    let tally = tally_of(pattern);
     match (tally.limit, tally.bare) {
         (Some(place), _) => Some((Cause::Limit, place)),
         (None, Some(place)) => Some((Cause::NoLiteral, place)),
@@ -281,5 +276,5 @@ pub fn refused(pattern: &Pattern) -> Option<(Cause, usize)>
 pub fn fragment_count(pattern: &Pattern) -> usize
     ensures { λ r. ⌜ r ≡ length (fragments 0 (held (now (pattern .entry)))) ⌝ }
 {
-    whole(pattern).ended
+    tally_of(pattern).ended
 }

@@ -3,4 +3,4 @@ use Rattle.engine.proofs.Tallies.{tally-counts}
 use Rattle.engine.proofs.limits.fragment_count.Needs as need
 
 pub returns : need.returns
-returns c = tally-counts (c .whole .result) (held (c .args .pattern .now)) (c .whole .ensures)
+returns c = tally-counts (c .tally-of .result) (held (c .args .pattern .now)) (c .tally-of .ensures)

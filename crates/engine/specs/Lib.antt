@@ -4,5 +4,6 @@ pub mod Limits
 pub mod Reading
 pub mod Scanning
 pub mod Stored
+pub mod Tallies
 pub mod Tokens
 pub mod Turned

@@ -3,6 +3,7 @@ pub mod cause;
 pub mod fault;
 pub mod fragment;
 pub mod lexer;
+pub mod limits;
 pub mod mirror;
 pub mod part;
 pub mod pattern;

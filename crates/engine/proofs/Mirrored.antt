@@ -6,7 +6,6 @@ use Prim.Native.Nat.{ℕ, zero, suc, _+_, _-_, _≤_}
 use native.Mathlib.Omega.{arith}
 use lib.Dec.{leb}
 use lib.ListN.{length, take, drop, take-append-drop, length-drop, length-map, length-reverse, length-append}
-use lib.Seq.{length-take-le}
 use Rattle.std.proofs.shelf.Lists.{take-at, drop-at, drop-drop, take-map, drop-map}
 use Rattle.std.proofs.shelf.Tests.{leb-true, le-leb, and-parts, and-from}
 use Rattle.kinds.specs.Fragments.{mirrored-placed}
@@ -18,6 +17,7 @@ use Rattle.engine.specs.declared.part.Part.{Part}
 use Rattle.engine.specs.declared.part.Part.the-variants as part
 use Rattle.engine.specs.declared.part.PlacedPart.{PlacedPart}
 use Rattle.engine.specs.declared.run.Run.{Run}
+use Rattle.engine.proofs.Runs.{run-length, runs-within-drop}
 
 -- a stretch of a list, in the reversed list
 stretch-reversed : (front middle rest : List ℕ) → take (length middle) (drop (length rest) (reverse (front ++ (middle ++ rest)))) ≡ reverse middle
@@ -31,12 +31,11 @@ stretch-reversed front middle rest =
 -- a run of the reversed codes is the run reversed
 pub run-turned : (codes : List ℕ) (r : Run) → run-within codes r ≡ true → run-codes (reverse codes) (turned-run (length codes) r) ≡ reverse (run-codes codes r)
 run-turned codes r within =
-    let fits : r .start + r .len ≤ length codes = leb-true (r .start + r .len) (length codes) within in
     let front = take (r .start) codes in
     let middle = take (r .len) (drop (r .start) codes) in
     let rest = drop (r .len) (drop (r .start) codes) in
     let whole : front ++ (middle ++ rest) ≡ codes = ap (λ l. front ++ l) (take-append-drop (r .len) (drop (r .start) codes)) ∙ take-append-drop (r .start) codes in
-    let long : length middle ≡ r .len = length-take-le (r .len) (drop (r .start) codes) (simp length-drop (omega arith)) in
+    let long : length middle ≡ r .len = run-length codes r within in
     let left : length rest ≡ length codes - r .start - r .len = simp (length-drop, length-drop) refl in
     ap (λ n. take n (drop (length codes - r .start - r .len) (reverse codes))) (sym long)
     ∙ ap (λ n. take (length middle) (drop n (reverse codes))) (sym left)
@@ -57,11 +56,6 @@ runs-within-take codes (suc n) [] within = refl
 runs-within-take codes (suc n) (r ∷ rs) within =
     let parts = and-parts (run-within codes r) (runs-within codes rs) within in
     and-from (run-within codes r) (runs-within codes (take n rs)) (parts .0) (runs-within-take codes n rs (parts .1))
-
-runs-within-drop : (codes : List ℕ) (n : ℕ) (rs : List Run) → runs-within codes rs ≡ true → runs-within codes (drop n rs) ≡ true
-runs-within-drop codes zero rs within = within
-runs-within-drop codes (suc n) [] within = refl
-runs-within-drop codes (suc n) (r ∷ rs) within = runs-within-drop codes n rs (and-parts (run-within codes r) (runs-within codes rs) within .1)
 
 module _ (codes : List ℕ) (runs : List Run) (all : runs-within codes runs ≡ true) where
   -- a part stands for the mirrored item

@@ -1,7 +1,10 @@
 pub mod Classes
 pub mod Gaps
+pub mod Growth
+pub mod Items
 pub mod Machine
 pub mod Mirrored
 pub mod Runs
 pub mod Scans
+pub mod Steps
 pub mod Tallies

@@ -1,4 +1,7 @@
 // The engine: it reads pattern texts, compiles them, and searches readings.
+mod context;
+mod step;
+mod store;
 pub mod cause;
 pub mod fault;
 pub mod fragment;
@@ -7,5 +10,6 @@ pub mod limits;
 pub mod mirror;
 pub mod part;
 pub mod pattern;
+pub mod reader;
 pub mod run;
 pub mod token;

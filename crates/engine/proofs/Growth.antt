@@ -93,7 +93,7 @@ module _ (codes more : List ℕ) (runs later : List Run) where
     item-more (part.Group first count) h =
         let fits : first + count ≤ length runs = leb-true (first + count) (length runs) h in
         let same : take count (drop first (runs ++ later)) ≡ take count (drop first runs) =
-            ap (take count) (drop-append-le first runs later (omega arith)) ∙ take-append-le count (drop first runs) later (omega (arith, length-drop first runs)) in
+        ap (take count) (drop-append-le first runs later (omega arith)) ∙ take-append-le count (drop first runs) later (omega (arith, length-drop first runs)) in
         ap group
         (ap (map (run-codes (codes ++ more))) same
         ∙ runs-codes-more codes more (take count (drop first runs)) (runs-within-take codes count (drop first runs) (runs-within-drop codes first runs within)))

@@ -6,5 +6,6 @@ pub mod Machine
 pub mod Mirrored
 pub mod Runs
 pub mod Scans
+pub mod Shows
 pub mod Steps
 pub mod Tallies

@@ -157,9 +157,9 @@ module _ (codes : List ℕ) (runs : List Run) (code : ℕ) (within : runs-within
   group-literal : (first from : ℕ) → Lies-within codes runs (context.Group first from) → step-of codes′ runs′ (Within (context.Group first from)) ≡ with-code nameless (state-of codes runs (context.Group first from)) code
   group-literal first from h =
       let earlier : map (run-codes codes′) (drop first runs′) ≡ map (run-codes codes) (drop first runs) =
-          ap (λ cs. map (run-codes cs) (drop first runs′)) pushed
-          ∙ ap (λ rs. map (run-codes (codes ++ code ∷ [])) (drop first rs)) same
-          ∙ runs-codes-more codes (code ∷ []) (drop first runs) (runs-within-drop codes first runs within) in
+      ap (λ cs. map (run-codes cs) (drop first runs′)) pushed
+      ∙ ap (λ rs. map (run-codes (codes ++ code ∷ [])) (drop first rs)) same
+      ∙ runs-codes-more codes (code ∷ []) (drop first runs) (runs-within-drop codes first runs within) in
       λ i. goes-on (alternatives (earlier i) (longer from (h .1) i))
 
   low-literal : (inside : Bool) (from : ℕ) → Lies-within codes runs (context.Low inside from) → step-of codes′ runs′ (Within (context.Low inside from)) ≡ with-code nameless (state-of codes runs (context.Low inside from)) code

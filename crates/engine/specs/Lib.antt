@@ -4,6 +4,7 @@ pub mod Faults
 pub mod Limits
 pub mod Reading
 pub mod Scanning
+pub mod Sequences
 pub mod Stored
 pub mod Tallies
 pub mod Tokens

@@ -1,8 +1,6 @@
 // The engine: it reads pattern texts, compiles them, and searches readings.
-mod context;
-mod step;
-mod store;
 pub mod cause;
+mod context;
 pub mod fault;
 pub mod fragment;
 pub mod lexer;
@@ -12,4 +10,8 @@ pub mod part;
 pub mod pattern;
 pub mod reader;
 pub mod run;
+pub mod sequence;
+mod step;
+mod store;
+pub mod text;
 pub mod token;

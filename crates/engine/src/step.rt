@@ -127,11 +127,7 @@ fn in_high(pattern: &Pattern, inside: bool, low: Run, start: usize, mark: Punctu
 }
 
 // A punctuation.
-fn punctuation(
-    pattern: &mut Pattern,
-    context: Context,
-    mark: Punctuation,
-) -> Result<Step, Fault>
+fn punctuation(pattern: &mut Pattern, context: Context, mark: Punctuation) -> Result<Step, Fault>
     requires { ⌜ Context-within (now pattern) context ⌝ }
     ensures { λ r. ⌜ Cases r (Steps-to (now (pattern .entry)) (now (pattern .exit)) (next-by nameless (state-in (now (pattern .entry)) context) (character mark))) (λ f. f .cause ≡ Memory) ⌝ }
 {
@@ -164,11 +160,7 @@ fn literal(pattern: &mut Pattern, context: Context, code: u16) -> Result<Step, F
 }
 
 // Takes one token.
-pub(crate) fn advance(
-    pattern: &mut Pattern,
-    context: Context,
-    token: Token,
-) -> Result<Step, Fault>
+pub(crate) fn advance(pattern: &mut Pattern, context: Context, token: Token) -> Result<Step, Fault>
     requires { ⌜ Context-within (now pattern) context ⌝ }
     ensures { λ r. ⌜ Cases r (Steps-to (now (pattern .entry)) (now (pattern .exit)) (with-token nameless (state-in (now (pattern .entry)) context) (token .entry))) (λ f. f .cause ≡ Memory) ⌝ }
 {

@@ -102,5 +102,5 @@ loop-next-again g c =
       c .next .ensures .same-text ∙ l .inv .0,
       subst (Context-within last) (sym (c .behind-context .ensures)) (behind-within last item),
       subst (λ k. So-far a t last k (c .place-from .result) later) (sym (c .behind-context .ensures))
-      (subst (λ n. So-far a t last (context-behind item) n later) (sym (c .place-from .ensures)) so-far),
+          (subst (λ n. So-far a t last (context-behind item) n later) (sym (c .place-from .ensures)) so-far),
     )

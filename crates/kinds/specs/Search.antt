@@ -9,7 +9,7 @@ use Rattle.std.specs.declared.option.Option.{Option}
 use Rattle.std.specs.declared.option.Option.the-variants.{Some, None}
 use Rattle.kinds.specs.Fragments.{Fragment, fragments, bodies, limit-place}
 use Rattle.kinds.specs.Grammar.{Placed, Ordered, start}
-use Rattle.kinds.specs.Patterns.{Item, at-most, cuts, hits}
+use Rattle.kinds.specs.Patterns.{Item, at-most, cuts, hits, same}
 use Rattle.kinds.specs.declared.pattern.Reference.the-variants.{Front, Anywhere}
 
 -- the elements from one place to before another
@@ -46,3 +46,17 @@ Found-exactly =
     → Ordered start qs → limit-place qs ≡ None
     → (found (fragments lo qs) 0 (Some hi) xs ≡ hits Front lo hi (bodies qs) xs)
     × (found (fragments 0 qs) 0 None xs ≡ hits Anywhere 0 0 (bodies qs) xs)
+
+-- The anchor.
+
+-- codes stand at a place
+abbrev pub stands-at : List ℕ → List ℕ → ℕ → Bool
+stands-at codes xs place = leb (place + length codes) (length xs) && same (stretch xs place (place + length codes)) codes
+
+-- the first place, from one on, where codes stand: k places are left to try
+abbrev pub first-fit-from : List ℕ → List ℕ → ℕ → ℕ → Option ℕ
+first-fit-from codes xs place zero = None
+first-fit-from codes xs place (suc k) = elim (stands-at codes xs place) [ true ↦ Some place | false ↦ first-fit-from codes xs (suc place) k ]
+
+abbrev pub first-fit : List ℕ → List ℕ → ℕ → Option ℕ
+first-fit codes xs from = first-fit-from codes xs from (suc (length xs) - from)

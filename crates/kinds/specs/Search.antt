@@ -60,3 +60,7 @@ first-fit-from codes xs place (suc k) = elim (stands-at codes xs place) [ true �
 
 abbrev pub first-fit : List ℕ → List ℕ → ℕ → Option ℕ
 first-fit codes xs from = first-fit-from codes xs from (suc (length xs) - from)
+
+-- items reach from a list's start to before a place of it
+abbrev pub reaches : List Item → List ℕ → ℕ → Bool
+reaches items xs k = leb k (length xs) && cuts items (take k xs)

@@ -20,4 +20,4 @@ returns-in-Except c =
     }
 
 pub returns-in-rest : need.returns-in-rest
-returns-in-rest c = record { does = sym (bracket-stuck (c .args .mark) (c .in-rest .not-Except)); items = refl; within = tt; }
+returns-in-rest c = record { does = sym (bracket-stuck (c .args .mark) (c .in-rest .not-Except)); items = refl; within = tt }

@@ -14,7 +14,7 @@ use Rattle.engine.proofs.step.in_low.Needs as need
 pub returns-then-run-eq0 : need.returns-then-run-eq0
 returns-then-run-eq0 c =
     let run = drop (c .args .start) (vec-items (c .args .pattern .now .codes)) in
-    record { does = sym (low-unbegun (c .args .inside) run (c .args .mark) (le-ltb 0 (length run) (omega arith))); items = refl; within = tt; }
+    record { does = sym (low-unbegun (c .args .inside) run (c .args .mark) (le-ltb 0 (length run) (omega arith))); items = refl; within = tt }
 
 pub returns-in-Colon : need.returns-in-Colon
 returns-in-Colon c =

@@ -18,8 +18,8 @@ ghost-self c =
     let Within : List ℕ → Type 0 = λ cs. (runs-within cs runs ≡ true) × ((parts-within cs runs parts ≡ true) × Unit {0}) in
     subst Within (sym (c .push .ensures .items))
     (cond-both (isOk (c .push .result)) (codes ++ more) codes Within
-      (λ _. (runs-within-more codes more runs (c .args .self .now .«runs_within»), (parts-within-more-codes codes more runs parts (c .args .self .now .«parts_within»), tt)))
-      (λ _. (c .args .self .now .«runs_within», (c .args .self .now .«parts_within», tt))))
+    (λ _. (runs-within-more codes more runs (c .args .self .now .«runs_within»), (parts-within-more-codes codes more runs parts (c .args .self .now .«parts_within»), tt)))
+    (λ _. (c .args .self .now .«runs_within», (c .args .self .now .«parts_within», tt))))
 
 pub returns : need.returns
 returns c =

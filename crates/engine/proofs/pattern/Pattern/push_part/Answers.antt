@@ -18,8 +18,8 @@ ghost-self c =
     let Within : List PlacedPart → Type 0 = λ ps. (runs-within codes runs ≡ true) × ((parts-within codes runs ps ≡ true) × Unit {0}) in
     subst Within (sym (c .push .ensures .items))
     (cond-both (isOk (c .push .result)) (parts ++ c .args .part ∷ []) parts Within
-      (λ _. (c .args .self .now .«runs_within», (parts-within-push codes runs parts (c .args .part) (c .args .self .now .«parts_within») (c .pre), tt)))
-      (λ _. (c .args .self .now .«runs_within», (c .args .self .now .«parts_within», tt))))
+    (λ _. (c .args .self .now .«runs_within», (parts-within-push codes runs parts (c .args .part) (c .args .self .now .«parts_within») (c .pre), tt)))
+    (λ _. (c .args .self .now .«runs_within», (c .args .self .now .«parts_within», tt))))
 
 pub returns : need.returns
 returns c =

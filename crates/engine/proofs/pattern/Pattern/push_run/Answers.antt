@@ -18,8 +18,8 @@ ghost-self c =
     let Within : List Run → Type 0 = λ rs. (runs-within codes rs ≡ true) × ((parts-within codes rs parts ≡ true) × Unit {0}) in
     subst Within (sym (c .push .ensures .items))
     (cond-both (isOk (c .push .result)) (runs ++ more) runs Within
-      (λ _. (runs-within-push codes runs (c .args .run) (c .args .self .now .«runs_within») (c .pre), (parts-within-more-runs codes runs more parts (c .args .self .now .«parts_within»), tt)))
-      (λ _. (c .args .self .now .«runs_within», (c .args .self .now .«parts_within», tt))))
+    (λ _. (runs-within-push codes runs (c .args .run) (c .args .self .now .«runs_within») (c .pre), (parts-within-more-runs codes runs more parts (c .args .self .now .«parts_within»), tt)))
+    (λ _. (c .args .self .now .«runs_within», (c .args .self .now .«parts_within», tt))))
 
 pub returns : need.returns
 returns c =

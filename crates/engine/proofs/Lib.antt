@@ -3,5 +3,9 @@ pub mod Gaps
 pub mod Growth
 pub mod Items
 pub mod Machine
+pub mod Mirrored
+pub mod Runs
 pub mod Scans
+pub mod Shows
 pub mod Steps
+pub mod Tallies

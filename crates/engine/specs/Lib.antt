@@ -1,6 +1,11 @@
+pub mod Compiled
 pub mod Contexts
 pub mod Faults
+pub mod Limits
 pub mod Reading
 pub mod Scanning
+pub mod Sequences
 pub mod Stored
+pub mod Tallies
 pub mod Tokens
+pub mod Turned

@@ -2,11 +2,16 @@
 pub mod cause;
 mod context;
 pub mod fault;
+pub mod fragment;
 pub mod lexer;
+pub mod limits;
+pub mod mirror;
 pub mod part;
 pub mod pattern;
 pub mod reader;
 pub mod run;
+pub mod sequence;
 mod step;
 mod store;
+pub mod text;
 pub mod token;

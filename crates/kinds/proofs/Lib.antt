@@ -1,9 +1,11 @@
+pub mod Compiled
 pub mod Decisions
 pub mod Elements
 pub mod Follows
 pub mod Mirrors
 pub mod Places
 pub mod Refusals
+pub mod Searches
 pub mod Sound
 pub mod Spellings
 pub mod Steps

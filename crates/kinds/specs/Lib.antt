@@ -1,8 +1,10 @@
 pub mod Alphabet
 pub mod AxleMarks
 pub mod Bytes
+pub mod Fragments
 pub mod Grammar
 pub mod Patterns
 pub mod Reader
 pub mod Readings
+pub mod Search
 pub mod Spelling

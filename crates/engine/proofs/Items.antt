@@ -1,9 +1,9 @@
 -- How the items of a text come together while it is read, token by token.
 use mathlib.Core.Path.{_≡_, refl, sym, ap, subst, _∙_}
-use mathlib.Core.Bool.{Bool, true, false}
+use mathlib.Core.Bool.{true, false}
 use mathlib.Core.List.{List, [], _∷_, _++_, append-assoc, append-nil}
 use mathlib.Core.Logic.{⊎-elim}
-use Prim.Native.Nat.{ℕ, _≤_}
+use Prim.Native.Nat.{ℕ}
 use native.Mathlib.Omega.{arith}
 use lib.ListN.{length, drop}
 use Rattle.std.proofs.shelf.Lists.{drop-all}
@@ -15,7 +15,7 @@ use Rattle.std.specs.declared.result.Result.{Result}
 use Rattle.std.specs.declared.result.Result.the-variants.{Ok, Err}
 use Rattle.kinds.specs.Alphabet.{Alphabet, Lawful, alphanumeric}
 use Rattle.kinds.specs.Grammar.{Placed, behind}
-use Rattle.kinds.specs.Reader.{State, between, asked, half, alternatives, bracket, low, high, digits, endless, stuck, leads, with-code, next, finished, in-front, follow, items-of}
+use Rattle.kinds.specs.Reader.{State, between, asked, half, alternatives, bracket, low, high, digits, endless, leads, with-code, next, finished, in-front, follow, items-of}
 use Rattle.kinds.proofs.Texts.{leads-alphanumeric}
 use Rattle.engine.specs.Contexts.{nameless, expects-in, ends-in, context-behind, state-of, state-in, step-of, Context-within, Steps-to, Part-pushed}
 use Rattle.engine.specs.Reading.{held}
@@ -41,6 +41,7 @@ abbrev pub prepended : List Placed → Result (List Placed) ℕ → Result (List
 prepended qs (Ok rs) = Ok (qs ++ rs)
 prepended qs (Err n) = Err n
 
+-- where no item was read, the rest gives all
 prepended-none : (r : Result (List Placed) ℕ) → prepended [] r ≡ r
 prepended-none (Ok rs) = refl
 prepended-none (Err n) = refl
@@ -55,7 +56,7 @@ no-letter Except = refl
 no-letter Colon = refl
 no-letter CloseRange = refl
 
--- what the reader expects, whether a text may end, and what comes behind an item are said by the context alone
+-- what the reader expects is said by the context alone
 expected-in : (codes : List ℕ) (runs : List Run) (c : Context) → expected (state-of codes runs c) ≡ Some (expects-in c)
 expected-in codes runs context.Start = refl
 expected-in codes runs context.AfterThing = refl
@@ -65,6 +66,7 @@ expected-in codes runs context.Bracket = refl
 expected-in codes runs (context.Low inside from) = refl
 expected-in codes runs (context.High inside first from) = refl
 
+-- the context behind an item stands for the state behind it
 behind-in : (codes : List ℕ) (runs : List Run) (p : Part) → between (behind (item-of codes runs p)) ≡ state-of codes runs (context-behind p)
 behind-in codes runs (part.Literal c) = refl
 behind-in codes runs part.Any = refl
@@ -74,6 +76,7 @@ behind-in codes runs (part.Other run) = refl
 behind-in codes runs (part.Gap g) = refl
 
 module _ {E : Type 0} (a : Alphabet E) where
+  -- whether a text may end is said by the context alone
   finished-in : (codes : List ℕ) (runs : List Run) (c : Context) → finished a (state-of codes runs c) ≡ ends-in c
   finished-in codes runs context.Start = refl
   finished-in codes runs context.AfterThing = refl
@@ -83,6 +86,7 @@ module _ {E : Type 0} (a : Alphabet E) where
   finished-in codes runs (context.Low inside from) = refl
   finished-in codes runs (context.High inside first from) = refl
 
+  -- one item more before the rest
   prepended-push : (qs : List Placed) (q : Placed) (r : Result (List Placed) ℕ) → prepended qs (in-front a q r) ≡ prepended (qs ++ q ∷ []) r
   prepended-push qs q (Ok rs) = ap Ok (sym (append-assoc qs (q ∷ []) rs))
   prepended-push qs q (Err n) = refl
@@ -124,6 +128,7 @@ module _ {E : Type 0} (a : Alphabet E) where
         (λ e. e)
         (cases-bool (leads a (character m)))
 
+    -- so a token does the same whatever the kind
     same-token : (s : State) (e : Expects) (tok : Token) → expected s ≡ Some e → with-token a s tok ≡ with-token nameless s tok
     same-token s e (token.Literal pair code) h = same-code s code
     same-token s e token.Any h = refl
@@ -140,12 +145,14 @@ module _ {E : Type 0} (a : Alphabet E) where
       ended : place ≡ length t → items-of a t ≡ prepended (held p) (follow a (state-in p c) from place [])
       ended h = so-far ∙ ap (λ rest. prepended (held p) (follow a (state-in p c) from place rest)) (drop-all place t (omega arith))
 
+      -- a text that may end there is read
       pub whole : place ≡ length t → ends-in c ≡ true → items-of a t ≡ Ok (held p)
       whole h e =
           ended h
           ∙ ap (prepended (held p)) (cond-true _ _ _ (finished-in (vec-items (p .codes)) (vec-items (p .runs)) c ∙ e))
           ∙ ap Ok (append-nil (held p))
 
+      -- a text that may not end there is refused at its end
       pub broken-off : place ≡ length t → ends-in c ≡ false → items-of a t ≡ Err place
       broken-off h e = ended h ∙ ap (prepended (held p)) (cond-false _ _ _ (finished-in (vec-items (p .codes)) (vec-items (p .runs)) c ∙ e))
 
@@ -155,6 +162,7 @@ module _ {E : Type 0} (a : Alphabet E) where
 
       -- behind a token, by what it did
       module _ (law : Lawful a) (tok : Token) (later : ℕ) (read : Reads-token a t (expects-in c) place tok later) (after : Pattern) (s : Step) (to : Steps-to p after (with-token nameless (state-in p c) tok) s) where
+        -- the rest goes on from what the token did
         stepped : (s′ : Step) → s ≡ s′ → items-of a t ≡ prepended (held p) (continued a (step-of (vec-items (after .codes)) (vec-items (after .runs)) s′) from place later (drop later t))
         stepped s′ is =
             let expects = expected-in (vec-items (p .codes)) (vec-items (p .runs)) c in
@@ -163,12 +171,15 @@ module _ {E : Type 0} (a : Alphabet E) where
             ∙ ap (λ n. prepended (held p) (continued a n from place later (drop later t)))
             (same-token law (state-in p c) (expects-in c) tok expects ∙ sym (to .does) ∙ ap (step-of (vec-items (after .codes)) (vec-items (after .runs))) is)
 
+        -- a token that cannot stand is where the text is refused
         pub stuck-there : s ≡ Stuck → items-of a t ≡ Err place
         stuck-there is = stepped Stuck is
 
+        -- the item goes on
         pub goes-within : (c′ : Context) → s ≡ Within c′ → So-far t after c′ from later
         goes-within c′ is = stepped (Within c′) is ∙ ap (λ qs. prepended qs (follow a (state-in after c′) from later (drop later t))) (sym (to .items))
 
+        -- the item is complete, and stored
         pub completes : (i : Part) → s ≡ Complete i → (last : Pattern) → Part-pushed after (record { place = from; part = i }) last → So-far t last (context-behind i) later later
         completes i is last pushed =
             let codes = vec-items (after .codes) in
@@ -185,13 +196,16 @@ module _ {E : Type 0} (a : Alphabet E) where
             ∙ ap (λ rs. prepended (held last) (rest (state-of (vec-items (last .codes)) rs (context-behind i)))) (sym (pushed .runs))
 
   -- what the lexer answers about an equal text where the same is expected
-  module _ (t t′ : List ℕ) (same : t′ ≡ t) (e e′ : Expects) (is : e′ ≡ e) (place later : ℕ) where
-    pub lexed-token : (n : Option Token) (tok : Token) → n ≡ Some tok → Lexed a t′ e′ place (Ok n) later → Reads-token a t e place tok later
-    lexed-token n tok some h = subst (λ x. Reads-token a t x place tok later) is (subst (λ x. Reads-token a x e′ place tok later) same (subst (λ o. Lexed a t′ e′ place (Ok o) later) some h .0))
+  module _ {t t′ : List ℕ} (same : t′ ≡ t) {e e′ : Expects} (is : e′ ≡ e) (place later : ℕ) where
+    -- a token
+    pub lexed-token : {n : Option Token} {tok : Token} → n ≡ Some tok → Lexed a t′ e′ place (Ok n) later → Reads-token a t e place tok later
+    lexed-token {n} {tok} some h = subst (λ x. Reads-token a t x place tok later) is (subst (λ x. Reads-token a x e′ place tok later) same (subst (λ o. Lexed a t′ e′ place (Ok o) later) some h .0))
 
-    pub lexed-end : (n : Option Token) → n ≡ None → Lexed a t′ e′ place (Ok n) later → place ≡ length t
-    lexed-end n none h = subst (λ o. Lexed a t′ e′ place (Ok o) later) none h .0 ∙ ap length same
+    -- the end of the text
+    pub lexed-end : {n : Option Token} → n ≡ None → Lexed a t′ e′ place (Ok n) later → place ≡ length t
+    lexed-end none h = subst (λ o. Lexed a t′ e′ place (Ok o) later) none h .0 ∙ ap length same
 
+    -- a place where the text cannot be read on
     pub lexed-stop : (at : ℕ) → Lexed a t′ e′ place (Err at) later → Stops-expecting a t e place at
     lexed-stop at h = subst (λ x. Stops-expecting a t x place at) is (subst (λ x. Stops-expecting a x e′ place at) same (h .0))
 

@@ -29,10 +29,11 @@ pub unled : (c : ℕ) → leads nameless c ≡ false
 unfolding some-below
 unled c = refl
 
+-- so a pair begins nowhere
 unpaired : (s : State) (c : ℕ) → pair-in nameless s c ≡ stuck
 unpaired s c = only-false _ _ (unled c)
 
--- the punctuations that cannot stand in a state
+-- between items only the two opening punctuations stand
 pub between-stuck : (p : Position) (m : Punctuation) → (m ≡ OpenGroup → ⊥) → (m ≡ OpenRange → ⊥) → next nameless (between p) (character m) ≡ stuck
 between-stuck p OpenGroup g r = absurd (g refl)
 between-stuck p Bar g r = unpaired (between p) 124
@@ -42,6 +43,7 @@ between-stuck p Except g r = unpaired (between p) 33
 between-stuck p Colon g r = unpaired (between p) 58
 between-stuck p CloseRange g r = unpaired (between p) 93
 
+-- behind an opening bracket only an exclamation mark stands
 pub bracket-stuck : (m : Punctuation) → (m ≡ Except → ⊥) → next nameless bracket (character m) ≡ stuck
 bracket-stuck OpenGroup e = unpaired bracket 40
 bracket-stuck Bar e = unpaired bracket 124
@@ -52,6 +54,7 @@ bracket-stuck Colon e = unpaired bracket 58
 bracket-stuck CloseRange e = unpaired bracket 93
 
 module _ (runs : List (List ℕ)) (run : List ℕ) where
+  -- in a group only a bar and the end stand
   pub group-stuck : (m : Punctuation) → (m ≡ Bar → ⊥) → (m ≡ CloseGroup → ⊥) → next nameless (alternatives runs run) (character m) ≡ stuck
   group-stuck OpenGroup b e = unpaired (alternatives runs run) 40
   group-stuck Bar b e = absurd (b refl)
@@ -61,7 +64,7 @@ module _ (runs : List (List ℕ)) (run : List ℕ) where
   group-stuck Colon b e = unpaired (alternatives runs run) 58
   group-stuck CloseRange b e = unpaired (alternatives runs run) 93
 
-  -- nor does any stand where the run has not begun
+  -- none stands where the run has not begun
   pub group-unbegun : (m : Punctuation) → begun run ≡ false → next nameless (alternatives runs run) (character m) ≡ stuck
   group-unbegun OpenGroup h = unpaired (alternatives runs run) 40
   group-unbegun Bar h = only-false _ _ h
@@ -72,6 +75,7 @@ module _ (runs : List (List ℕ)) (run : List ℕ) where
   group-unbegun CloseRange h = unpaired (alternatives runs run) 93
 
 module _ (inside : Bool) (run : List ℕ) where
+  -- in the first run of a range only a colon and the end stand
   pub low-stuck : (m : Punctuation) → (m ≡ Colon → ⊥) → (m ≡ CloseRange → ⊥) → next nameless (low inside run) (character m) ≡ stuck
   low-stuck OpenGroup b e = unpaired (low inside run) 40
   low-stuck Bar b e = unpaired (low inside run) 124
@@ -81,6 +85,7 @@ module _ (inside : Bool) (run : List ℕ) where
   low-stuck Colon b e = absurd (b refl)
   low-stuck CloseRange b e = absurd (e refl)
 
+  -- none stands where the run has not begun
   pub low-unbegun : (m : Punctuation) → begun run ≡ false → next nameless (low inside run) (character m) ≡ stuck
   low-unbegun OpenGroup h = unpaired (low inside run) 40
   low-unbegun Bar h = unpaired (low inside run) 124
@@ -91,6 +96,7 @@ module _ (inside : Bool) (run : List ℕ) where
   low-unbegun CloseRange h = only-false _ _ (and-left _ _ h)
 
 module _ (inside : Bool) (first run : List ℕ) where
+  -- in the second run of a range only the end stands
   pub high-stuck : (m : Punctuation) → (m ≡ CloseRange → ⊥) → next nameless (high inside first run) (character m) ≡ stuck
   high-stuck OpenGroup e = unpaired (high inside first run) 40
   high-stuck Bar e = unpaired (high inside first run) 124
@@ -100,6 +106,7 @@ module _ (inside : Bool) (first run : List ℕ) where
   high-stuck Colon e = unpaired (high inside first run) 58
   high-stuck CloseRange e = absurd (e refl)
 
+  -- none stands where the run has not begun
   pub high-unbegun : (m : Punctuation) → begun run ≡ false → next nameless (high inside first run) (character m) ≡ stuck
   high-unbegun OpenGroup h = unpaired (high inside first run) 40
   high-unbegun Bar h = unpaired (high inside first run) 124
@@ -109,15 +116,17 @@ module _ (inside : Bool) (first run : List ℕ) where
   high-unbegun Colon h = unpaired (high inside first run) 58
   high-unbegun CloseRange h = only-false _ _ h
 
--- an opening parenthesis, and an exclamation mark behind a bracket: no run was read
+-- an opening parenthesis: no run of the group was read
 pub group-opens : (codes : List ℕ) (runs : List Run) (first from : ℕ) → length runs ≤ first → length codes ≤ from → state-of codes runs (context.Group first from) ≡ alternatives [] []
 group-opens codes runs first from h k = λ i. alternatives (map (run-codes codes) (drop-all first runs h i)) (drop-all from codes k i)
 
+-- an exclamation mark behind a bracket: no code of the first run was read
 pub low-opens : (codes : List ℕ) (runs : List Run) (inside : Bool) (from : ℕ) → length codes ≤ from → state-of codes runs (context.Low inside from) ≡ low inside []
 low-opens codes runs inside from k = ap (low inside) (drop-all from codes k)
 
--- a bar and the end of a group, behind a run that is then the last
+-- a bar and the end of a group, behind a run, which is then stored
 module _ (codes : List ℕ) (runs : List Run) (first from : ℕ) (run : Run) (inside : first ≤ length runs) (is-run : run-codes codes run ≡ drop from codes) (some : 0 < length (drop from codes)) (codes′ : List ℕ) (runs′ : List Run) (same : codes′ ≡ codes) (pushed : runs′ ≡ runs ++ run ∷ []) where
+  -- the runs of the group, with the last
   one-run-more : map (run-codes codes′) (drop first runs′) ≡ map (run-codes codes) (drop first runs) ++ drop from codes ∷ []
   one-run-more =
       ap (λ cs. map (run-codes cs) (drop first runs′)) same
@@ -126,10 +135,12 @@ module _ (codes : List ℕ) (runs : List Run) (first from : ℕ) (run : Run) (in
       ∙ map-push (run-codes codes) (drop first runs) run
       ∙ ap (λ x. map (run-codes codes) (drop first runs) ++ x ∷ []) is-run
 
+  -- a bar begins the next run
   pub bar-does : (from′ : ℕ) → length codes′ ≤ from′ → step-of codes′ runs′ (Within (context.Group first from′)) ≡ next nameless (state-of codes runs (context.Group first from)) (character Bar)
   bar-does from′ h =
       (λ i. goes-on (alternatives (one-run-more i) (drop-all from′ codes′ h i))) ∙ sym (only-true _ _ (lt-ltb 0 (length (drop from codes)) some))
 
+  -- the end completes the group
   pub close-does : (earlier : ℕ) → first + earlier ≡ length runs → 0 < earlier → step-of codes′ runs′ (Complete (part.Group first (earlier + 1))) ≡ next nameless (state-of codes runs (context.Group first from)) (character CloseGroup)
   close-does earlier all h =
       let longer : length runs′ ≡ length runs + 1 = ap length pushed ∙ length-push runs run in
@@ -138,22 +149,26 @@ module _ (codes : List ℕ) (runs : List Run) (first from : ℕ) (run : Run) (in
       ∙ ap (λ rs. complete (group rs)) one-run-more
       ∙ sym (only-true _ _ (and-from _ _ (lt-ltb 0 (length (drop from codes)) some) (lt-ltb 0 (length (map (run-codes codes) (drop first runs))) (omega arith))))
 
+  -- the completed group lies within the runs
   pub close-within : (earlier : ℕ) → first + earlier ≡ length runs → part-within codes′ runs′ (part.Group first (earlier + 1)) ≡ true
   close-within earlier all =
       let longer : length runs′ ≡ length runs + 1 = ap length pushed ∙ length-push runs run in
       le-leb (first + (earlier + 1)) (length runs′) (omega arith)
 
--- a colon
+-- a colon behind the first run of a range
 module _ (codes : List ℕ) (runs : List Run) (inside : Bool) (from : ℕ) (run : Run) (is-run : run-codes codes run ≡ drop from codes) (some : 0 < length (drop from codes)) where
+  -- a colon begins the second run
   pub colon-does : (from′ : ℕ) → length codes ≤ from′ → step-of codes runs (Within (context.High inside run from′)) ≡ next nameless (state-of codes runs (context.Low inside from)) (character Colon)
   colon-does from′ h =
       (λ i. goes-on (high inside (is-run i) (drop-all from′ codes h i))) ∙ sym (only-true _ _ (lt-ltb 0 (length (drop from codes)) some))
 
 -- one code more of the current run
 module _ (codes : List ℕ) (runs : List Run) (code : ℕ) (within : runs-within codes runs ≡ true) (codes′ : List ℕ) (runs′ : List Run) (pushed : codes′ ≡ codes ++ code ∷ []) (same : runs′ ≡ runs) where
+  -- the current run has one code more
   longer : (from : ℕ) → from ≤ length codes → drop from codes′ ≡ drop from codes ++ code ∷ []
   longer from h = ap (drop from) pushed ∙ drop-append-le from codes (code ∷ []) h
 
+  -- a literal in a group
   group-literal : (first from : ℕ) → Lies-within codes runs (context.Group first from) → step-of codes′ runs′ (Within (context.Group first from)) ≡ with-code nameless (state-of codes runs (context.Group first from)) code
   group-literal first from h =
       let earlier : map (run-codes codes′) (drop first runs′) ≡ map (run-codes codes) (drop first runs) =
@@ -162,9 +177,11 @@ module _ (codes : List ℕ) (runs : List Run) (code : ℕ) (within : runs-within
       ∙ runs-codes-more codes (code ∷ []) (drop first runs) (runs-within-drop codes first runs within) in
       λ i. goes-on (alternatives (earlier i) (longer from (h .1) i))
 
+  -- a literal in the first run of a range
   low-literal : (inside : Bool) (from : ℕ) → Lies-within codes runs (context.Low inside from) → step-of codes′ runs′ (Within (context.Low inside from)) ≡ with-code nameless (state-of codes runs (context.Low inside from)) code
   low-literal inside from h = ap (λ r. goes-on (low inside r)) (longer from h)
 
+  -- a literal in the second run of a range
   high-literal : (inside : Bool) (first : Run) (from : ℕ) → Lies-within codes runs (context.High inside first from) → step-of codes′ runs′ (Within (context.High inside first from)) ≡ with-code nameless (state-of codes runs (context.High inside first from)) code
   high-literal inside first from h =
       let kept = ap (λ cs. run-codes cs first) pushed ∙ run-codes-more codes (code ∷ []) first (h .0) in

@@ -78,15 +78,17 @@ step-of codes runs step.Stuck = stuck
 step-of codes runs (step.Within c) = goes-on (state-of codes runs c)
 step-of codes runs (step.Complete p) = complete (item-of codes runs p)
 
+-- what a step holds lies within the codes and runs that are stored
 abbrev pub Step-lies-within : List ℕ → List Run → Step → Type 0
 Step-lies-within codes runs step.Stuck = Unit {0}
 Step-lies-within codes runs (step.Within c) = Lies-within codes runs c
 Step-lies-within codes runs (step.Complete p) = part-within codes runs p ≡ true
 
--- the same of a pattern, with its codes and runs
+-- the state that a context stands for, over the codes and runs of a pattern
 abbrev pub state-in : Pattern → Context → State
 state-in p c = state-of (vec-items (p .codes)) (vec-items (p .runs)) c
 
+-- a context lies within the codes and runs of a pattern
 abbrev pub Context-within : Pattern → Context → Type 0
 Context-within p c = Lies-within (vec-items (p .codes)) (vec-items (p .runs)) c
 
@@ -100,17 +102,19 @@ pub record Steps-to (before after : Pattern) (n : Next) (s : Step) : Type 0 wher
   pub items : held after ≡ held before
   pub within : Step-lies-within (vec-items (after .codes)) (vec-items (after .runs)) s
 
--- one code more, one run more, one item more
+-- one code more, and the same runs and items
 pub record Code-pushed (before : Pattern) (code : ℕ) (after : Pattern) : Type 0 where
   pub codes : vec-items (after .codes) ≡ vec-items (before .codes) ++ code ∷ []
   pub runs : vec-items (after .runs) ≡ vec-items (before .runs)
   pub items : held after ≡ held before
 
+-- one run more, and the same codes and items
 pub record Run-pushed (before : Pattern) (run : Run) (after : Pattern) : Type 0 where
   pub codes : vec-items (after .codes) ≡ vec-items (before .codes)
   pub runs : vec-items (after .runs) ≡ vec-items (before .runs) ++ run ∷ []
   pub items : held after ≡ held before
 
+-- one item more, and the same codes and runs
 pub record Part-pushed (before : Pattern) (p : PlacedPart) (after : Pattern) : Type 0 where
   pub codes : vec-items (after .codes) ≡ vec-items (before .codes)
   pub runs : vec-items (after .runs) ≡ vec-items (before .runs)

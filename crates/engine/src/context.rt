@@ -13,6 +13,7 @@ pub enum Context {
     Start,
     AfterThing,
     AfterGap,
+    // In a group.
     Group {
         first: usize,
         start: usize,

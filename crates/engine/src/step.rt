@@ -1,16 +1,11 @@
 // What one token does to the item that is being read.
-ghost use mathlib.Core.Bool.{true};
 ghost use mathlib.Core.Path.{_≡_};
-ghost use Prim.Native.Nat.{_≤_};
-ghost use lib.ListN.{length};
 ghost use Rattle.engine.specs.Contexts.{Context-within, Steps-to, nameless, state-in};
-ghost use Rattle.engine.specs.Stored.{run-within};
 ghost use Rattle.engine.specs.Tokens.{character, with-token};
 ghost use Rattle.engine.specs.declared.cause.Cause.the-variants.{Memory};
 ghost use Rattle.engine.specs.declared.context.Context.the-variants.{Group as InGroup, Bracket as InBracket, Low as InLow, High as InHigh};
 ghost use Rattle.kinds.specs.Grammar.{Position};
 ghost use Rattle.kinds.specs.Reader.{between as between-items, next as next-by, with-code};
-ghost use Rattle.std.specs.Of.Vec.{vec-items};
 ghost use Rattle.std.specs.Results.{Cases};
 use crate::context::Context;
 use crate::fault::Fault;
@@ -126,7 +121,7 @@ fn in_high(pattern: &Pattern, inside: bool, low: Run, start: usize, mark: Punctu
     }
 }
 
-// A punctuation.
+// A punctuation, by the context.
 fn punctuation(pattern: &mut Pattern, context: Context, mark: Punctuation) -> Result<Step, Fault>
     requires { ⌜ Context-within (now pattern) context ⌝ }
     ensures { λ r. ⌜ Cases r (Steps-to (now (pattern .entry)) (now (pattern .exit)) (next-by nameless (state-in (now (pattern .entry)) context) (character mark))) (λ f. f .cause ≡ Memory) ⌝ }
@@ -159,7 +154,7 @@ fn literal(pattern: &mut Pattern, context: Context, code: u16) -> Result<Step, F
     Ok(Step::Within(later))
 }
 
-// Takes one token.
+// One token.
 pub(crate) fn advance(pattern: &mut Pattern, context: Context, token: Token) -> Result<Step, Fault>
     requires { ⌜ Context-within (now pattern) context ⌝ }
     ensures { λ r. ⌜ Cases r (Steps-to (now (pattern .entry)) (now (pattern .exit)) (with-token nameless (state-in (now (pattern .entry)) context) (token .entry))) (λ f. f .cause ≡ Memory) ⌝ }

@@ -1,10 +1,9 @@
-use mathlib.Core.Path.{_≡_, sym, ap, subst, _∙_}
+use mathlib.Core.Path.{sym, ap, subst, _∙_}
 use mathlib.Core.Logic.{inr}
-use denote.Ref.{now}
 use native.Mathlib.Omega.{arith}
 use Rattle.std.specs.Of.Vec.{vec-items}
 use Rattle.std.specs.declared.result.Result.the-variants.{Err}
-use Rattle.engine.specs.Contexts.{expects-in, context-behind, Context-within, Step-lies-within}
+use Rattle.engine.specs.Contexts.{context-behind, Context-within, Step-lies-within}
 use Rattle.engine.specs.declared.context.Context.the-variants.{Start}
 use Rattle.engine.proofs.Items.{So-far, so-far-start, whole, broken-off, stopped, stuck-there, goes-within, completes, lexed-token, lexed-end, lexed-stop, behind-within}
 use Rattle.engine.proofs.reader.read.Needs as need
@@ -25,7 +24,7 @@ returns-in-Err g c =
     let t = c .args .text .now in
     let l = c .loop-next in
     let at = c .in-Err .place in
-    let stops = lexed-stop a t (now (l .lexer .text)) (l .inv .0) (expects-in (l .context)) (c .expects .result) (c .expects .ensures) (l .lexer .place) (c .next .last .self .place) at (c .in-Err .ensures tt .token) in
+    let stops = lexed-stop a (l .inv .0) (c .expects .ensures) (l .lexer .place) (c .next .last .self .place) at (c .in-Err .ensures tt .token) in
     let refused = stopped a t (l .pattern) (l .context) (l .from) (l .lexer .place) (l .inv .2) at stops in
     inr (refused ∙ ap Err (sym (c .refusal .ensures .place)), c .refusal .ensures .cause, c .refusal .ensures .sequence)
 
@@ -34,7 +33,7 @@ returns-then-may-end g c =
     let a = g .K·Kind .alphabet in
     let t = c .args .text .now in
     let l = c .loop-next in
-    let end = lexed-end a t (now (l .lexer .text)) (l .inv .0) (expects-in (l .context)) (c .expects .result) (c .expects .ensures) (l .lexer .place) (c .next .last .self .place) (c .in-Ok .next) (c .in-rest .is) (c .in-Ok .ensures tt .token) in
+    let end = lexed-end a (l .inv .0) (c .expects .ensures) (l .lexer .place) (c .next .last .self .place) (c .in-rest .is) (c .in-Ok .ensures tt .token) in
     whole a t (l .pattern) (l .context) (l .from) (l .lexer .place) (l .inv .2) end (sym (c .if-may-end .ensures tt))
 
 pub returns-else-may-end : need.returns-else-may-end
@@ -42,7 +41,7 @@ returns-else-may-end g c =
     let a = g .K·Kind .alphabet in
     let t = c .args .text .now in
     let l = c .loop-next in
-    let end = lexed-end a t (now (l .lexer .text)) (l .inv .0) (expects-in (l .context)) (c .expects .result) (c .expects .ensures) (l .lexer .place) (c .next .last .self .place) (c .in-Ok .next) (c .in-rest .is) (c .in-Ok .ensures tt .token) in
+    let end = lexed-end a (l .inv .0) (c .expects .ensures) (l .lexer .place) (c .next .last .self .place) (c .in-rest .is) (c .in-Ok .ensures tt .token) in
     let refused = broken-off a t (l .pattern) (l .context) (l .from) (l .lexer .place) (l .inv .2) end (sym (c .if-may-end .ensures tt)) in
     inr (refused ∙ ap Err (sym (c .refusal-else-may-end .ensures .place ∙ c .place-place .ensures)), c .refusal-else-may-end .ensures .cause, c .refusal-else-may-end .ensures .sequence)
 
@@ -55,7 +54,7 @@ returns-in-Stuck g c =
     let t = c .args .text .now in
     let l = c .loop-next in
     let later = c .next .last .self .place in
-    let read = lexed-token a t (now (l .lexer .text)) (l .inv .0) (expects-in (l .context)) (c .expects .result) (c .expects .ensures) (l .lexer .place) later (c .in-Ok .next) (c .in-Some .token) (c .in-Some .is) (c .in-Ok .ensures tt .token) in
+    let read = lexed-token a (l .inv .0) (c .expects .ensures) (l .lexer .place) later (c .in-Some .is) (c .in-Ok .ensures tt .token) in
     let refused = stuck-there a t (l .pattern) (l .context) (l .from) (l .lexer .place) (l .inv .2) (g .K·Kind·met .lawful) (c .in-Some .token) later read (c .advance .last .pattern) (c .in-Continue-advance .field-0) (c .in-Continue-advance .ensures tt) (c .in-Stuck .is) in
     inr (refused ∙ ap Err (sym (c .refusal-in-Stuck .ensures .place ∙ c .place-place .ensures)), c .refusal-in-Stuck .ensures .cause, c .refusal-in-Stuck .ensures .sequence)
 
@@ -64,7 +63,7 @@ loop-next-less-in-Within g c =
     let a = g .K·Kind .alphabet in
     let t = c .args .text .now in
     let l = c .loop-next in
-    let read = lexed-token a t (now (l .lexer .text)) (l .inv .0) (expects-in (l .context)) (c .expects .result) (c .expects .ensures) (l .lexer .place) (c .next .last .self .place) (c .in-Ok .next) (c .in-Some .token) (c .in-Some .is) (c .in-Ok .ensures tt .token) in
+    let read = lexed-token a (l .inv .0) (c .expects .ensures) (l .lexer .place) (c .next .last .self .place) (c .in-Some .is) (c .in-Ok .ensures tt .token) in
     omega (arith, read .forward, read .inside)
 
 pub loop-next-again-in-Within : need.loop-next-again-in-Within
@@ -75,7 +74,7 @@ loop-next-again-in-Within g c =
     let later = c .next .last .self .place in
     let after = c .advance .last .pattern in
     let to = c .in-Continue-advance .ensures tt in
-    let read = lexed-token a t (now (l .lexer .text)) (l .inv .0) (expects-in (l .context)) (c .expects .result) (c .expects .ensures) (l .lexer .place) later (c .in-Ok .next) (c .in-Some .token) (c .in-Some .is) (c .in-Ok .ensures tt .token) in (
+    let read = lexed-token a (l .inv .0) (c .expects .ensures) (l .lexer .place) later (c .in-Some .is) (c .in-Ok .ensures tt .token) in (
       c .next .ensures .same-text ∙ l .inv .0,
       subst (Step-lies-within (vec-items (after .codes)) (vec-items (after .runs))) (c .in-Within .is) (to .within),
       goes-within a t (l .pattern) (l .context) (l .from) (l .lexer .place) (l .inv .2) (g .K·Kind·met .lawful) (c .in-Some .token) later read after (c .in-Continue-advance .field-0) to (c .in-Within .later) (c .in-Within .is),
@@ -86,7 +85,7 @@ loop-next-less g c =
     let a = g .K·Kind .alphabet in
     let t = c .args .text .now in
     let l = c .loop-next in
-    let read = lexed-token a t (now (l .lexer .text)) (l .inv .0) (expects-in (l .context)) (c .expects .result) (c .expects .ensures) (l .lexer .place) (c .next .last .self .place) (c .in-Ok .next) (c .in-Some .token) (c .in-Some .is) (c .in-Ok .ensures tt .token) in
+    let read = lexed-token a (l .inv .0) (c .expects .ensures) (l .lexer .place) (c .next .last .self .place) (c .in-Some .is) (c .in-Ok .ensures tt .token) in
     omega (arith, read .forward, read .inside)
 
 pub loop-next-again : need.loop-next-again
@@ -97,7 +96,7 @@ loop-next-again g c =
     let later = c .next .last .self .place in
     let last = c .push-part .last .self in
     let item = c .in-Complete .part in
-    let read = lexed-token a t (now (l .lexer .text)) (l .inv .0) (expects-in (l .context)) (c .expects .result) (c .expects .ensures) (l .lexer .place) later (c .in-Ok .next) (c .in-Some .token) (c .in-Some .is) (c .in-Ok .ensures tt .token) in
+    let read = lexed-token a (l .inv .0) (c .expects .ensures) (l .lexer .place) later (c .in-Some .is) (c .in-Ok .ensures tt .token) in
     let so-far = completes a t (l .pattern) (l .context) (l .from) (l .lexer .place) (l .inv .2) (g .K·Kind·met .lawful) (c .in-Some .token) later read (c .advance .last .pattern) (c .in-Continue-advance .field-0) (c .in-Continue-advance .ensures tt) item (c .in-Complete .is) last (c .in-Continue-push-part .ensures tt) in (
       c .next .ensures .same-text ∙ l .inv .0,
       subst (Context-within last) (sym (c .behind-context .ensures)) (behind-within last item),

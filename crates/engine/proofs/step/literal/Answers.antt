@@ -1,6 +1,4 @@
 use mathlib.Core.Path.{_≡_, sym, ap, subst, _∙_}
-use mathlib.Core.Bool.{true}
-use mathlib.Core.List.{[], _∷_}
 use Prim.Native.Nat.{_+_}
 use native.Mathlib.Omega.{arith}
 use lib.ListN.{length}
@@ -8,7 +6,6 @@ use Rattle.std.proofs.shelf.Lists.{length-push}
 use Rattle.std.specs.Of.Vec.{vec-items}
 use Rattle.kinds.specs.Reader.{with-code}
 use Rattle.engine.specs.Contexts.{nameless, state-of, step-of, Lies-within}
-use Rattle.engine.specs.declared.context.Context.the-variants as context
 use Rattle.engine.specs.declared.step.Step.the-variants.{Within}
 use Rattle.engine.proofs.Steps.{bracket-literal, run-literal, stays-within}
 use Rattle.engine.proofs.step.literal.Needs as need

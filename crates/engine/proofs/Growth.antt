@@ -49,7 +49,7 @@ module _ (codes : List ℕ) where
   runs-within-drop (suc n) (r ∷ rs) h = runs-within-drop n rs (and-parts (run-within codes r) (runs-within codes rs) h .1)
 
   -- the same of the first runs
-  runs-within-take : (n : ℕ) (rs : List Run) → runs-within codes rs ≡ true → runs-within codes (take n rs) ≡ true
+  pub runs-within-take : (n : ℕ) (rs : List Run) → runs-within codes rs ≡ true → runs-within codes (take n rs) ≡ true
   runs-within-take zero rs h = refl
   runs-within-take (suc n) [] h = refl
   runs-within-take (suc n) (r ∷ rs) h =

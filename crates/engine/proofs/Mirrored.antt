@@ -2,7 +2,7 @@
 use mathlib.Core.Path.{_≡_, refl, sym, ap, subst, _∙_}
 use mathlib.Core.Bool.{Bool, true, false, _&&_}
 use mathlib.Core.List.{List, [], _∷_, _++_, map, reverse, map-append, reverse-append, reverse-cons, append-assoc}
-use Prim.Native.Nat.{ℕ, zero, suc, _+_, _-_, _≤_}
+use Prim.Native.Nat.{ℕ, _+_, _-_, _≤_}
 use native.Mathlib.Omega.{arith}
 use lib.Dec.{leb}
 use lib.ListN.{length, take, drop, take-append-drop, length-drop, length-map, length-reverse, length-append}
@@ -17,7 +17,8 @@ use Rattle.engine.specs.declared.part.Part.{Part}
 use Rattle.engine.specs.declared.part.Part.the-variants as part
 use Rattle.engine.specs.declared.part.PlacedPart.{PlacedPart}
 use Rattle.engine.specs.declared.run.Run.{Run}
-use Rattle.engine.proofs.Runs.{run-length, runs-within-drop}
+use Rattle.engine.proofs.Growth.{runs-within-drop, runs-within-take, parts-within-push}
+use Rattle.engine.proofs.Runs.{run-length}
 
 -- a stretch of a list, in the reversed list
 stretch-reversed : (front middle rest : List ℕ) → take (length middle) (drop (length rest) (reverse (front ++ (middle ++ rest)))) ≡ reverse middle
@@ -48,14 +49,6 @@ runs-turned codes [] within = refl
 runs-turned codes (r ∷ rs) within =
     let parts = and-parts (run-within codes r) (runs-within codes rs) within in
     λ i. run-turned codes r (parts .0) i ∷ runs-turned codes rs (parts .1) i
-
--- some of the runs are within where all are
-runs-within-take : (codes : List ℕ) (n : ℕ) (rs : List Run) → runs-within codes rs ≡ true → runs-within codes (take n rs) ≡ true
-runs-within-take codes zero rs within = refl
-runs-within-take codes (suc n) [] within = refl
-runs-within-take codes (suc n) (r ∷ rs) within =
-    let parts = and-parts (run-within codes r) (runs-within codes rs) within in
-    and-from (run-within codes r) (runs-within codes (take n rs)) (parts .0) (runs-within-take codes n rs (parts .1))
 
 module _ (codes : List ℕ) (runs : List Run) (all : runs-within codes runs ≡ true) where
   -- a part stands for the mirrored item
@@ -109,13 +102,7 @@ module _ (codes : List ℕ) (runs : List Run) where
   turned-part-within (part.Other run) within = turned-run-within codes run within
   turned-part-within (part.Gap g) within = refl
 
-  -- a list of parts with one more at its end is within where both are
-  within-more : (cs : List ℕ) (rs : List Run) (ps : List PlacedPart) (p : PlacedPart) → parts-within cs rs ps ≡ true → part-within cs rs (p .part) ≡ true → parts-within cs rs (ps ++ p ∷ []) ≡ true
-  within-more cs rs [] p before here = and-from (part-within cs rs (p .part)) true here refl
-  within-more cs rs (q ∷ qs) p before here =
-      let parts = and-parts (part-within cs rs (q .part)) (parts-within cs rs qs) before in
-      and-from (part-within cs rs (q .part)) (parts-within cs rs (qs ++ p ∷ [])) (parts .0) (within-more cs rs qs p (parts .1) here)
-
+  -- the turned parts lie within
   pub turned-parts-within : (ps : List PlacedPart) → parts-within codes runs ps ≡ true → parts-within (reverse codes) (map (turned-run (length codes)) runs) (map (turned-placed (length codes)) (reverse ps)) ≡ true
   turned-parts-within [] within = refl
   turned-parts-within (p ∷ ps) within =
@@ -124,4 +111,4 @@ module _ (codes : List ℕ) (runs : List Run) where
       let last : map (turned-placed (length codes)) (reverse (p ∷ ps)) ≡ map (turned-placed (length codes)) (reverse ps) ++ turned-placed (length codes) p ∷ [] =
       ap (map (turned-placed (length codes))) (reverse-cons p ps) ∙ map-append (turned-placed (length codes)) (reverse ps) (p ∷ []) in
       ap (parts-within (reverse codes) runs′) last
-      ∙ within-more (reverse codes) runs′ (map (turned-placed (length codes)) (reverse ps)) (turned-placed (length codes) p) (turned-parts-within ps (parts .1)) (turned-part-within (p .part) (parts .0))
+      ∙ parts-within-push (reverse codes) runs′ (map (turned-placed (length codes)) (reverse ps)) (turned-placed (length codes) p) (turned-parts-within ps (parts .1)) (turned-part-within (p .part) (parts .0))

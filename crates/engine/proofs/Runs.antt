@@ -25,12 +25,6 @@ use Rattle.engine.specs.declared.run.Run.{Run}
 pub run-length : (codes : List ℕ) (r : Run) → run-within codes r ≡ true → length (run-codes codes r) ≡ r .len
 run-length codes r h = let fits = leb-true (r .start + r .len) (length codes) h in simp (length-take, length-drop) (omega arith)
 
--- the later runs lie within where all do
-pub runs-within-drop : (codes : List ℕ) (n : ℕ) (rs : List Run) → runs-within codes rs ≡ true → runs-within codes (drop n rs) ≡ true
-runs-within-drop codes zero rs h = h
-runs-within-drop codes (suc n) [] h = refl
-runs-within-drop codes (suc n) (r ∷ rs) h = runs-within-drop codes n rs (and-parts (run-within codes r) (runs-within codes rs) h .1)
-
 -- the longest of the first runs is as long as they say
 pub longest-length : (codes : List ℕ) (n : ℕ) (rs : List Run) → runs-within codes rs ≡ true → longest (map (run-codes codes) (take n rs)) ≡ longest-run (take n rs)
 longest-length codes zero rs h = refl

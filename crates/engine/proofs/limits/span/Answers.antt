@@ -8,7 +8,8 @@ use Rattle.std.proofs.shelf.Tests.{and-parts}
 use Rattle.kinds.specs.Fragments.{span}
 use Rattle.engine.specs.Stored.{item-of, part-within, run-within}
 use Rattle.engine.specs.Tallies.{longest-run}
-use Rattle.engine.proofs.Runs.{run-length, longest-length, runs-within-drop}
+use Rattle.engine.proofs.Growth.{runs-within-drop}
+use Rattle.engine.proofs.Runs.{run-length, longest-length}
 use Rattle.engine.proofs.limits.span.Needs as need
 
 pub returns-in-Group : need.returns-in-Group

@@ -1,0 +1,24 @@
+-- The items of parts, and of some of them.
+use mathlib.Core.Path.{_≡_, refl, ap}
+use mathlib.Core.List.{List, [], _∷_}
+use Prim.Native.Nat.{ℕ, zero, suc}
+use lib.ListN.{length, take, drop}
+use Rattle.kinds.specs.Fragments.{bodies}
+use Rattle.kinds.specs.Grammar.{Placed}
+use Rattle.engine.specs.Compiling.{part-items}
+use Rattle.engine.specs.declared.part.PlacedPart.{PlacedPart}
+use Rattle.engine.specs.declared.run.Run.{Run}
+
+pub bodies-take : (n : ℕ) (qs : List Placed) → bodies (take n qs) ≡ take n (bodies qs)
+bodies-take zero qs = refl
+bodies-take (suc n) [] = refl
+bodies-take (suc n) (q ∷ qs) = ap (λ is. q .item ∷ is) (bodies-take n qs)
+
+pub bodies-drop : (n : ℕ) (qs : List Placed) → bodies (drop n qs) ≡ drop n (bodies qs)
+bodies-drop zero qs = refl
+bodies-drop (suc n) [] = refl
+bodies-drop (suc n) (q ∷ qs) = bodies-drop n qs
+
+pub part-items-length : (codes : List ℕ) (runs : List Run) (ps : List PlacedPart) → length (part-items codes runs ps) ≡ length ps
+part-items-length codes runs [] = refl
+part-items-length codes runs (p ∷ ps) = ap suc (part-items-length codes runs ps)

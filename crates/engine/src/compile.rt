@@ -1,0 +1,108 @@
+// Compiles a pattern: its fragments, their anchors, and the numbers of their search.
+ghost use mathlib.Core.Bool.{true};
+ghost use mathlib.Core.List.{List, map};
+ghost use mathlib.Core.Path.{_≡_};
+ghost use Prim.Native.Nat.{ℕ, _+_, _-_, _≤_, _<_};
+ghost use lib.ListN.{length, getD, take, drop};
+ghost use Rattle.engine.specs.Compiled.{literal-codes, Holds, Hold};
+ghost use Rattle.engine.specs.Compiling.{part-items, Anchors, Shifts, Cuts};
+ghost use Rattle.engine.specs.Reading.{held};
+ghost use Rattle.engine.specs.Stored.{items as items-of, item-of, run-codes, runs-within, part-within, parts-within};
+ghost use Rattle.engine.specs.declared.cause.Cause.the-variants.{Memory};
+ghost use Rattle.engine.specs.declared.run.Run.{Run as StoredRun};
+ghost use Rattle.kinds.specs.Fragments.{shortest as shortest-of, least as least-of, sum-least, shift, fragments as fragments-from};
+ghost use Rattle.std.specs.Of.Vec.{vec-items};
+ghost use Rattle.std.specs.Results.{Cases};
+use crate::cause::Cause;
+use crate::fault::Fault;
+use crate::fault::FaultFromRefused;
+use crate::fragment::Fragment;
+use crate::fragment::INDICES;
+use crate::part::Part;
+use crate::part::PlacedPart;
+use crate::pattern::Pattern;
+use crate::run::Run;
+use kinds::pattern::Reference;
+use std::alloc::Global;
+
+// A number that does not fit its type cannot be stored.
+const TOO_LARGE: Fault = Fault {
+    cause: Cause::Memory,
+    sequence: 0,
+    place: 0,
+};
+
+// The sum of two numbers of elements.
+fn sum(a: u64, b: u64) -> Result<u64, Fault>
+    ensures { λ r. ⌜ Cases r (λ n. n ≡ a + b) (λ f. f .cause ≡ Memory) ⌝ }
+{
+    a.checked_add(b).ok_or(TOO_LARGE)
+}
+
+// The length of the shortest run, 0 where there is none.
+fn shortest(runs: &[Run]) -> usize
+    ensures { λ r. ⌜ ((codes : List ℕ) → runs-within codes (now (runs .entry)) ≡ true → r ≡ shortest-of (map (run-codes codes) (now (runs .entry)))) ⌝ }
+{
+    if runs.is_empty() {
+        return 0;
+    }
+    let mut least = runs[0].len;
+    for run in &runs[1..] {
+        least = least.min(run.len);
+    }
+    least
+}
+
+// The least number of elements that a part takes.
+fn least(pattern: &Pattern, part: Part) -> usize
+    requires { ⌜ part-within (vec-items (now pattern .codes)) (vec-items (now pattern .runs)) part ≡ true ⌝ }
+    ensures { λ r. ⌜ r ≡ least-of (item-of (vec-items (now (pattern .entry) .codes)) (vec-items (now (pattern .entry) .runs)) part) ⌝ }
+{
+    match part {
+        Part::Literal(_) | Part::Any => 1,
+        Part::Group { first, count } => {
+            let runs = pattern.runs.as_slice();
+            shortest(&runs[first..first + count])
+        }
+        Part::Range { low, .. } => low.len,
+        Part::Other(run) => run.len,
+        Part::Gap(gap) => usize::from(gap.least),
+    }
+}
+
+// The least number of elements that parts take.
+fn lead(pattern: &Pattern, parts: &[PlacedPart]) -> Result<u64, Fault>
+    requires { ⌜ parts-within (vec-items (now pattern .codes)) (vec-items (now pattern .runs)) (now parts) ≡ true ⌝ }
+    ensures { λ r. ⌜ Cases r (λ n. n ≡ sum-least (part-items (vec-items (now (pattern .entry) .codes)) (vec-items (now (pattern .entry) .runs)) (now (parts .entry)))) (λ f. f .cause ≡ Memory) ⌝ }
+{
+    let mut total = 0;
+    for placed in parts {
+        total = sum(total, least(pattern, placed.part) as u64)?;
+    }
+    Ok(total)
+}
+
+// The shift of an index that none of as many literals has.
+fn longest_shift(len: usize) -> Result<u32, Fault>
+    ensures { λ r. ⌜ Cases r (λ n. n ≡ len + 1) (λ f. f .cause ≡ Memory) ⌝ }
+{
+    match u32::try_from(len) {
+        Ok(n) => n.checked_add(1).ok_or(TOO_LARGE),
+        Err(_) => Err(TOO_LARGE),
+    }
+}
+
+// The shift of each index: how far from behind the literals the last of them stands that has the index.
+fn shifts(literals: &[PlacedPart]) -> Result<[u32; INDICES], Fault>
+    ensures { λ r. ⌜ Cases r (λ t. (codes : List ℕ) (runs : List StoredRun) → length (literal-codes (part-items codes runs (now (literals .entry)))) ≡ length (now (literals .entry)) → Shifts t (literal-codes (part-items codes runs (now (literals .entry))))) (λ f. f .cause ≡ Memory) ⌝ }
+{
+    let mut distance = longest_shift(literals.len())?;
+    let mut table = [distance; INDICES];
+    for placed in literals {
+        distance -= 1;
+        if let Part::Literal(code) = placed.part {
+            table[usize::from(code) % INDICES] = distance;
+        }
+    }
+    Ok(table)
+}

@@ -1,11 +1,14 @@
 -- The items of parts, and of some of them.
 use mathlib.Core.Path.{_≡_, refl, ap}
 use mathlib.Core.List.{List, [], _∷_}
-use Prim.Native.Nat.{ℕ, zero, suc}
-use lib.ListN.{length, take, drop}
+use Prim.Native.Nat.{ℕ, zero, suc, suc-le-suc, _<_}
+use native.Mathlib.Omega.{arith}
+use lib.ListN.{length, getD, take, drop}
 use Rattle.kinds.specs.Fragments.{bodies}
 use Rattle.kinds.specs.Grammar.{Placed}
+use Rattle.kinds.specs.Patterns.{any}
 use Rattle.engine.specs.Compiling.{part-items}
+use Rattle.engine.specs.Stored.{item-of}
 use Rattle.engine.specs.declared.part.PlacedPart.{PlacedPart}
 use Rattle.engine.specs.declared.run.Run.{Run}
 
@@ -22,3 +25,8 @@ bodies-drop (suc n) (q ∷ qs) = bodies-drop n qs
 pub part-items-length : (codes : List ℕ) (runs : List Run) (ps : List PlacedPart) → length (part-items codes runs ps) ≡ length ps
 part-items-length codes runs [] = refl
 part-items-length codes runs (p ∷ ps) = ap suc (part-items-length codes runs ps)
+
+pub part-items-at : (codes : List ℕ) (runs : List Run) (ps : List PlacedPart) (i : ℕ) (d : PlacedPart) → i < length ps → getD (part-items codes runs ps) i any ≡ item-of codes runs (getD ps i d .part)
+part-items-at codes runs [] i d l = absurd (omega arith)
+part-items-at codes runs (p ∷ ps) zero d l = refl
+part-items-at codes runs (p ∷ ps) (suc i) d (suc-le-suc l) = part-items-at codes runs ps i d l

@@ -1,3 +1,4 @@
+pub mod Anchoring
 pub mod Bodies
 pub mod Classes
 pub mod Gaps

@@ -76,7 +76,7 @@ Towards table distance i ps =
     × ((index : ℕ) → index < 256 → Becomes table (literal-codes (part-items codes runs (drop i ps))) distance (shift (literal-codes (part-items codes runs ps)) index) index)
 
 -- a part that is no literal
-no-code : (codes : List ℕ) (runs : List Run) (p : Part) → ((c : ℕ) → p ≡ part.Literal c → ⊥) → literal-code (item-of codes runs p) ≡ None
+pub no-code : (codes : List ℕ) (runs : List Run) (p : Part) → ((c : ℕ) → p ≡ part.Literal c → ⊥) → literal-code (item-of codes runs p) ≡ None
 no-code codes runs (part.Literal c) h = absurd (h c refl)
 no-code codes runs part.Any h = refl
 no-code codes runs (part.Group first count) h = refl

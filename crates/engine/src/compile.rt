@@ -1,11 +1,11 @@
 // Compiles a pattern: its fragments, their anchors, and the numbers of their search.
-ghost use mathlib.Core.Bool.{true};
+ghost use mathlib.Core.Bool.{true, cond};
 ghost use mathlib.Core.List.{List, map};
 ghost use mathlib.Core.Path.{_≡_};
 ghost use Prim.Native.Nat.{ℕ, _+_, _-_, _≤_, _<_};
 ghost use lib.ListN.{length, getD, take, drop};
 ghost use Rattle.engine.specs.Compiled.{literal-codes, Holds, Hold};
-ghost use Rattle.engine.specs.Compiling.{part-items, Anchors, Shifts, Cuts};
+ghost use Rattle.engine.specs.Compiling.{part-items, replaces, Anchors, Shifts, Cuts};
 ghost use Rattle.engine.specs.Reading.{held};
 ghost use Rattle.engine.specs.Stored.{items as items-of, item-of, run-codes, runs-within, part-within, parts-within};
 ghost use Rattle.engine.specs.declared.cause.Cause.the-variants.{Memory};
@@ -105,4 +105,47 @@ fn shifts(literals: &[PlacedPart]) -> Result<[u32; INDICES], Fault>
         }
     }
     Ok(table)
+}
+
+// A run of neighbouring literals among parts.
+#[derive(Clone, Copy)]
+struct Literals {
+    start: usize,
+    len: usize,
+}
+
+// The one of two runs, of which the second stands later, that is the better anchor: the longer one. Of equals it is the
+// one that is the last in the text, which is the first of a mirrored pattern.
+fn better(reference: Reference, old: Literals, new: Literals) -> Literals
+    ensures { λ r. ⌜ r ≡ cond (replaces reference (old .len) (new .len)) new old ⌝ }
+{
+    let replaces = match reference {
+        Reference::Back => old.len < new.len,
+        Reference::Front | Reference::Anywhere => old.len <= new.len,
+    };
+    if new.len > 0 && replaces {
+        new
+    } else {
+        old
+    }
+}
+
+// The anchor of a fragment's parts: its best run of literals, or an empty one behind them where there is no literal.
+fn anchor(parts: &[PlacedPart], reference: Reference) -> Literals
+    ensures { λ r. ⌜ ((codes : List ℕ) (runs : List StoredRun) → Anchors reference (part-items codes runs (now (parts .entry))) (r .start) (r .len)) ⌝ }
+{
+    let mut best = Literals {
+        start: parts.len(),
+        len: 0,
+    };
+    let mut start = 0;
+    for (i, placed) in parts.iter().enumerate() {
+        if !matches!(placed.part, Part::Literal(_)) {
+            let len = i - start;
+            best = better(reference, best, Literals { start, len });
+            start = i + 1;
+        }
+    }
+    let len = parts.len() - start;
+    better(reference, best, Literals { start, len })
 }

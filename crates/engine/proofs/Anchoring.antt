@@ -1,13 +1,13 @@
 -- The search for the best run of literals among items.
 use mathlib.Core.Path.{_≡_, refl, sym, ap, subst, _∙_}
 use mathlib.Core.Bool.{Bool, true, false, cond, _&&_}
-use mathlib.Core.List.{List, [], _∷_, _++_, map, append-assoc}
-use Prim.Native.Nat.{ℕ, zero, suc, _+_, _-_, _≤_, _<_}
+use mathlib.Core.List.{List, [], _∷_, _++_, map}
+use Prim.Native.Nat.{ℕ, suc, _+_, _-_, _≤_, _<_}
 use native.Mathlib.Omega.{arith}
 use lib.Dec.{leb, ltb}
 use lib.ListN.{length, getD, take, drop, length-take, length-drop, length-append}
 use lib.Seq.{take-add}
-use Rattle.std.proofs.shelf.Lists.{take-more, drop-more, drop-drop, getD-drop, take-all, drop-all, append-nil, take-append-drop}
+use Rattle.std.proofs.shelf.Lists.{drop-more, take-all, drop-all, append-nil}
 use Rattle.std.proofs.shelf.Tests.{lt-ltb, cond-both}
 use Rattle.std.specs.declared.option.Option.{Option}
 use Rattle.std.specs.declared.option.Option.the-variants.{Some, None}
@@ -18,17 +18,8 @@ use Rattle.kinds.specs.declared.pattern.Reference.the-variants.{Front, Back, An
 use Rattle.engine.specs.Compiled.{literal-codes, anchor-at}
 use Rattle.engine.specs.Compiling.{Literal-run, Anchors, replaces}
 use Rattle.engine.specs.declared.compile.Literals.{Literals}
+use Rattle.engine.proofs.Bodies.{stretch-more}
 use Rattle.engine.proofs.Shifting.{literals-within}
-
--- the elements from one place to another, and one more
-stretch-more : {X : Type 0} (xs : List X) (start i : ℕ) (d : X) → start ≤ i → i < length xs → take (i + 1 - start) (drop start xs) ≡ take (i - start) (drop start xs) ++ getD xs i d ∷ []
-stretch-more xs start i d h l =
-    let on : i + 1 - start ≡ i - start + 1 = omega arith in
-    let at : start + (i - start) ≡ i = omega arith in
-    let left = length-drop start xs in
-    ap (λ n. take n (drop start xs)) on
-    ∙ take-more (drop start xs) (i - start) d (omega arith)
-    ∙ ap (λ x. take (i - start) (drop start xs) ++ x ∷ []) (getD-drop start xs (i - start) d ∙ ap (λ k. getD xs k d) at)
 
 -- the codes of items with a literal more
 codes-more : (is : List Item) (c : ℕ) → literal-codes (is ++ literal c ∷ []) ≡ literal-codes is ++ c ∷ []

@@ -1,9 +1,10 @@
--- The items of parts, and of some of them.
-use mathlib.Core.Path.{_≡_, refl, ap}
-use mathlib.Core.List.{List, [], _∷_}
-use Prim.Native.Nat.{ℕ, zero, suc, suc-le-suc, _<_}
+-- Parts of lists, the items of stored parts, and those of some of them.
+use mathlib.Core.Path.{_≡_, refl, ap, _∙_}
+use mathlib.Core.List.{List, [], _∷_, _++_}
+use Prim.Native.Nat.{ℕ, zero, suc, _+_, _-_, _≤_, suc-le-suc, _<_}
 use native.Mathlib.Omega.{arith}
-use lib.ListN.{length, getD, take, drop}
+use lib.ListN.{length, getD, take, drop, length-drop}
+use Rattle.std.proofs.shelf.Lists.{take-more, getD-drop}
 use Rattle.kinds.specs.Fragments.{bodies}
 use Rattle.kinds.specs.Grammar.{Placed}
 use Rattle.kinds.specs.Patterns.{any}
@@ -11,6 +12,16 @@ use Rattle.engine.specs.Compiling.{part-items}
 use Rattle.engine.specs.Stored.{item-of}
 use Rattle.engine.specs.declared.part.PlacedPart.{PlacedPart}
 use Rattle.engine.specs.declared.run.Run.{Run}
+
+-- the elements from one place to another, and one more
+pub stretch-more : {X : Type 0} (xs : List X) (start i : ℕ) (d : X) → start ≤ i → i < length xs → take (i + 1 - start) (drop start xs) ≡ take (i - start) (drop start xs) ++ getD xs i d ∷ []
+stretch-more xs start i d h l =
+    let on : i + 1 - start ≡ i - start + 1 = omega arith in
+    let at : start + (i - start) ≡ i = omega arith in
+    let left = length-drop start xs in
+    ap (λ n. take n (drop start xs)) on
+    ∙ take-more (drop start xs) (i - start) d (omega arith)
+    ∙ ap (λ x. take (i - start) (drop start xs) ++ x ∷ []) (getD-drop start xs (i - start) d ∙ ap (λ k. getD xs k d) at)
 
 pub bodies-take : (n : ℕ) (qs : List Placed) → bodies (take n qs) ≡ take n (bodies qs)
 bodies-take zero qs = refl

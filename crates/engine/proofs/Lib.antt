@@ -1,6 +1,7 @@
 pub mod Anchoring
 pub mod Bodies
 pub mod Classes
+pub mod Cutting
 pub mod Gaps
 pub mod Lengths
 pub mod Machine

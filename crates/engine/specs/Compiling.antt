@@ -43,7 +43,7 @@ Shifts table codes = (index : ℕ) → index < 256 → getD table index 0 ≡ sh
 
 -- The items from the start of a fragment on are cut behind its body, and from the next fragment's start on, if there is one.
 abbrev pub Cuts : List Placed → ℕ → Option (ℕ × ℕ) → Type 0
-Cuts qs end None = (break : ℕ) → cut-from break [] [] qs ≡ record { break = break; body = take end qs } ∷ []
+Cuts qs end None = (end ≤ length qs) × ((break : ℕ) → cut-from break [] [] qs ≡ record { break = break; body = take end qs } ∷ [])
 Cuts qs end (Some next) =
     (end < next .0) × (next .0 < length qs)
     × ((break : ℕ) → cut-from break [] [] qs ≡ record { break = break; body = take end qs } ∷ cut-from (next .1) [] [] (drop (next .0) qs))

@@ -149,3 +149,34 @@ fn anchor(parts: &[PlacedPart], reference: Reference) -> Literals
     let len = parts.len() - start;
     better(reference, best, Literals { start, len })
 }
+
+// Where a fragment's body ends, and where the fragment behind it starts, if there is one, with the least number of
+// elements between them.
+#[derive(Clone, Copy)]
+struct Cut {
+    end: usize,
+    next: Option<(usize, u64)>,
+}
+
+// Cuts the first fragment off the parts that it begins: behind its body, and at the thing behind the first row of gaps
+// that has one without upper end.
+fn cut_first(parts: &[PlacedPart]) -> Result<Cut, Fault>
+    ensures { λ r. ⌜ Cases r (λ c. (codes : List ℕ) (runs : List StoredRun) → Cuts (items-of codes runs (now (parts .entry))) (c .end) (c .next)) (λ f. f .cause ≡ Memory) ⌝ }
+{
+    let mut end = 0;
+    let mut endless = false;
+    let mut between: u64 = 0;
+    for (i, placed) in parts.iter().enumerate() {
+        if let Part::Gap(gap) = placed.part {
+            endless = endless || gap.most.is_none();
+            between = sum(between, u64::from(gap.least))?;
+        } else if endless {
+            let next = Some((i, between));
+            return Ok(Cut { end, next });
+        } else {
+            end = i + 1;
+            between = 0;
+        }
+    }
+    Ok(Cut { end, next: None })
+}

@@ -5,8 +5,6 @@ use Prim.Native.Nat.{ℕ, zero, suc, _+_, _-_, _≤_, suc-le-suc, _<_}
 use native.Mathlib.Omega.{arith}
 use lib.ListN.{length, getD, take, drop, length-drop}
 use Rattle.std.proofs.shelf.Lists.{take-more, getD-drop}
-use Rattle.kinds.specs.Fragments.{bodies}
-use Rattle.kinds.specs.Grammar.{Placed}
 use Rattle.kinds.specs.Patterns.{any}
 use Rattle.engine.specs.Compiling.{part-items}
 use Rattle.engine.specs.Stored.{item-of}
@@ -23,16 +21,6 @@ stretch-more xs start i d h l =
     ∙ take-more (drop start xs) (i - start) d (omega arith)
     ∙ ap (λ x. take (i - start) (drop start xs) ++ x ∷ []) (getD-drop start xs (i - start) d ∙ ap (λ k. getD xs k d) at)
 
-pub bodies-take : (n : ℕ) (qs : List Placed) → bodies (take n qs) ≡ take n (bodies qs)
-bodies-take zero qs = refl
-bodies-take (suc n) [] = refl
-bodies-take (suc n) (q ∷ qs) = ap (λ is. q .item ∷ is) (bodies-take n qs)
-
-pub bodies-drop : (n : ℕ) (qs : List Placed) → bodies (drop n qs) ≡ drop n (bodies qs)
-bodies-drop zero qs = refl
-bodies-drop (suc n) [] = refl
-bodies-drop (suc n) (q ∷ qs) = bodies-drop n qs
-
 pub part-items-length : (codes : List ℕ) (runs : List Run) (ps : List PlacedPart) → length (part-items codes runs ps) ≡ length ps
 part-items-length codes runs [] = refl
 part-items-length codes runs (p ∷ ps) = ap suc (part-items-length codes runs ps)
@@ -41,3 +29,13 @@ pub part-items-at : (codes : List ℕ) (runs : List Run) (ps : List PlacedPart) 
 part-items-at codes runs [] i d l = absurd (omega arith)
 part-items-at codes runs (p ∷ ps) zero d l = refl
 part-items-at codes runs (p ∷ ps) (suc i) d (suc-le-suc l) = part-items-at codes runs ps i d l
+
+pub part-items-take : (codes : List ℕ) (runs : List Run) (n : ℕ) (ps : List PlacedPart) → part-items codes runs (take n ps) ≡ take n (part-items codes runs ps)
+part-items-take codes runs zero ps = refl
+part-items-take codes runs (suc n) [] = refl
+part-items-take codes runs (suc n) (p ∷ ps) = ap (λ is. item-of codes runs (p .part) ∷ is) (part-items-take codes runs n ps)
+
+pub part-items-drop : (codes : List ℕ) (runs : List Run) (n : ℕ) (ps : List PlacedPart) → part-items codes runs (drop n ps) ≡ drop n (part-items codes runs ps)
+part-items-drop codes runs zero ps = refl
+part-items-drop codes runs (suc n) [] = refl
+part-items-drop codes runs (suc n) (p ∷ ps) = part-items-drop codes runs n ps

@@ -52,11 +52,23 @@ runs-take-within codes (suc n) (r ∷ rs) h =
     let parts = and-parts (run-within codes r) (runs-within codes rs) h in
     and-from (run-within codes r) (runs-within codes (take n rs)) (parts .0) (runs-take-within codes n rs (parts .1))
 
--- parts within the lists, and one of them
+-- parts within the lists, one of them, and some of them
 pub part-at-within : (codes : List ℕ) (runs : List Run) (ps : List PlacedPart) (i : ℕ) (d : PlacedPart) → parts-within codes runs ps ≡ true → i < length ps → part-within codes runs (getD ps i d .part) ≡ true
 part-at-within codes runs [] i d h l = absurd (omega arith)
 part-at-within codes runs (p ∷ ps) zero d h l = and-parts (part-within codes runs (p .part)) (parts-within codes runs ps) h .0
 part-at-within codes runs (p ∷ ps) (suc i) d h (suc-le-suc l) = part-at-within codes runs ps i d (and-parts (part-within codes runs (p .part)) (parts-within codes runs ps) h .1) l
+
+pub parts-drop-within : (codes : List ℕ) (runs : List Run) (n : ℕ) (ps : List PlacedPart) → parts-within codes runs ps ≡ true → parts-within codes runs (drop n ps) ≡ true
+parts-drop-within codes runs zero ps h = h
+parts-drop-within codes runs (suc n) [] h = h
+parts-drop-within codes runs (suc n) (p ∷ ps) h = parts-drop-within codes runs n ps (and-parts (part-within codes runs (p .part)) (parts-within codes runs ps) h .1)
+
+pub parts-take-within : (codes : List ℕ) (runs : List Run) (n : ℕ) (ps : List PlacedPart) → parts-within codes runs ps ≡ true → parts-within codes runs (take n ps) ≡ true
+parts-take-within codes runs zero ps h = refl
+parts-take-within codes runs (suc n) [] h = h
+parts-take-within codes runs (suc n) (p ∷ ps) h =
+    let within = and-parts (part-within codes runs (p .part)) (parts-within codes runs ps) h in
+    and-from (part-within codes runs (p .part)) (parts-within codes runs (take n ps)) (within .0) (parts-take-within codes runs n ps (within .1))
 
 -- the least length of a part, by its shape
 module _ (codes : List ℕ) (runs : List Run) (p : Part) where

@@ -1,4 +1,5 @@
 pub mod Anchoring
+pub mod Assembling
 pub mod Bodies
 pub mod Classes
 pub mod Cutting

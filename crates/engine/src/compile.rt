@@ -132,7 +132,8 @@ fn better(reference: Reference, old: Literals, new: Literals) -> Literals
 
 // The anchor of a fragment's parts: its best run of literals, or an empty one behind them where there is no literal.
 fn anchor(parts: &[PlacedPart], reference: Reference) -> Literals
-    ensures { λ r. ⌜ ((codes : List ℕ) (runs : List StoredRun) → Anchors reference (part-items codes runs (now (parts .entry))) (r .start) (r .len)) ⌝ }
+    ensures inside { λ r. ⌜ r .start + r .len ≤ length (now (parts .entry)) ⌝ }
+    ensures anchored { λ r. ⌜ ((codes : List ℕ) (runs : List StoredRun) → Anchors reference (part-items codes runs (now (parts .entry))) (r .start) (r .len)) ⌝ }
 {
     let mut best = Literals {
         start: parts.len(),
@@ -179,4 +180,56 @@ fn cut_first(parts: &[PlacedPart]) -> Result<Cut, Fault>
         }
     }
     Ok(Cut { end, next: None })
+}
+
+// The fragment whose body stands between two bounds, with the least number of elements before it.
+fn fragment_at(
+    pattern: &Pattern,
+    reference: Reference,
+    first: usize,
+    end: usize,
+    gap: u64,
+) -> Result<Fragment, Fault>
+    requires { ⌜ (first ≤ end) × (end ≤ length (vec-items (now pattern .parts))) ⌝ }
+    ensures { λ r. ⌜ Cases r (λ f. Holds reference (held (now (pattern .entry))) f (record { break = gap; body = take (end - first) (drop first (held (now (pattern .entry)))) })) (λ f. f .cause ≡ Memory) ⌝ }
+{
+    let parts = pattern.parts.as_slice();
+    let body = &parts[first..end];
+    let Literals { start, len } = anchor(body, reference);
+    let lead = lead(pattern, &body[0..start])?;
+    let shifts = shifts(&body[start..start + len])?;
+    Ok(Fragment {
+        first,
+        end,
+        anchor: first + start,
+        len,
+        gap,
+        lead,
+        shifts,
+    })
+}
+
+// The fragments of a pattern that stands in the order of its search (mirrored for a sequence from the back), compiled.
+pub fn fragments_of(
+    heap: Global,
+    pattern: &Pattern,
+    reference: Reference,
+    lo: u16,
+) -> Result<Vec<Fragment>, Fault>
+    ensures { λ r. ⌜ Cases r (λ v. Hold reference (held (now (pattern .entry))) (vec-items v) (fragments-from lo (held (now (pattern .entry))))) (λ f. f .cause ≡ Memory) ⌝ }
+{
+    let parts = pattern.parts.as_slice();
+    let mut fragments = Vec::new(heap);
+    let mut first = 0;
+    let mut gap = u64::from(lo);
+    loop {
+        let cut = cut_first(&parts[first..])?;
+        let fragment = fragment_at(pattern, reference, first, first + cut.end, gap)?;
+        fragments.push(fragment)?;
+        let Some((start, between)) = cut.next else {
+            return Ok(fragments);
+        };
+        first += start;
+        gap = between;
+    }
 }

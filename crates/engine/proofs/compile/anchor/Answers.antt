@@ -1,11 +1,11 @@
 use mathlib.Core.Path.{_≡_, sym, ap, subst, _∙_}
-use mathlib.Core.List.{List}
+use mathlib.Core.List.{List, []}
 use Prim.Native.Nat.{ℕ, _+_, _≤_}
 use native.Mathlib.Omega.{arith}
 use lib.ListN.{length, getD}
 use Rattle.std.proofs.shelf.Tests.{both-ways}
 use Rattle.kinds.specs.Fragments.{literal-code}
-use Rattle.engine.specs.Compiling.{part-items}
+use Rattle.engine.specs.Compiling.{part-items, Anchors}
 use Rattle.engine.specs.Stored.{item-of}
 use Rattle.engine.specs.declared.compile.Literals.{Literals}
 use Rattle.engine.specs.declared.part.Part.the-variants as part
@@ -55,8 +55,9 @@ loop-i-again c =
           ))
     ]
 
-pub returns : need.returns
-returns c codes runs =
+-- the run that is answered is the anchor
+found : (c : need.After-better) (codes : List ℕ) (runs : List Run) → Anchors (c .args .reference) (part-items codes runs (c .args .parts .now)) (c .better .result .start) (c .better .result .len)
+found c codes runs =
     let ps = c .args .parts .now in
     let long = part-items-length codes runs ps in
     let at = c .loop-i-test .left in
@@ -64,3 +65,9 @@ returns c codes runs =
     search-ends (c .args .reference) (part-items codes runs ps) (c .loop-i .start) (length ps) (c .loop-i .best) (omega arith)
     (subst (λ i. Searching (c .args .reference) (part-items codes runs ps) (c .loop-i .start) i (c .loop-i .best)) last (c .loop-i .inv .1 codes runs))
     (c .better .result) (c .better .ensures) long
+
+pub returns : need.returns
+returns c =
+    let long = part-items-length [] [] (c .args .parts .now) in
+    let fits = found c [] [] .literals .inside in
+    record { inside = omega arith; anchored = found c }

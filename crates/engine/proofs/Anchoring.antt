@@ -9,7 +9,6 @@ use lib.ListN.{length, getD, take, drop, length-take, length-drop, length-append
 use lib.Seq.{take-add}
 use Rattle.std.proofs.shelf.Lists.{drop-more, take-all, drop-all, append-nil}
 use Rattle.std.proofs.shelf.Tests.{lt-ltb, cond-both}
-use Rattle.std.specs.declared.option.Option.{Option}
 use Rattle.std.specs.declared.option.Option.the-variants.{Some, None}
 use Rattle.kinds.specs.Fragments.{Anchor, anchor, best, ended, literal-runs, literal-code}
 use Rattle.kinds.specs.Patterns.{Item, literal, any, group, range, other, gap}
@@ -55,6 +54,7 @@ best-ended Anywhere old front [] back more = refl
 best-ended Anywhere old front (c ∷ cs) back more =
     ap (λ b. best Anywhere (cond (b && leb (length (old .codes)) (suc (length cs))) (record { front = front; codes = c ∷ cs; back = back }) old) more) (sym (lt-ltb 0 (suc (length cs)) (omega arith)))
 
+-- a function of one of two values
 cond-map : {X Y : Type 0} (f : X → Y) (b : Bool) (x y : X) → f (cond b x y) ≡ cond b (f x) (f y)
 cond-map f true x y = refl
 cond-map f false x y = refl
@@ -66,6 +66,7 @@ module _ (r : Reference) (is : List Item) where
       Literal-run is (old .start) (old .len) × Literal-run is start (i - start)
       × (best r (anchor-at is (old .start) (old .len)) (literal-runs (take start is) (literal-codes (take (i - start) (drop start is))) (drop i is)) ≡ anchor r is)
 
+  -- before the first item
   pub search-begins : (n : ℕ) → n ≡ length is → Searching 0 0 (record { start = n; len = 0 })
   search-begins n e = (
     record { inside = omega arith; all = refl },
@@ -82,7 +83,7 @@ module _ (r : Reference) (is : List Item) where
     search-literal c l at =
         let run = literal-codes (take (i - start) (drop start is)) in
         let more : literal-codes (take (i + 1 - start) (drop start is)) ≡ run ++ c ∷ [] =
-            ap literal-codes (stretch-more is start i any ordered l ∙ ap (λ x. take (i - start) (drop start is) ++ x ∷ []) at) ∙ codes-more (take (i - start) (drop start is)) c in
+        ap literal-codes (stretch-more is start i any ordered l ∙ ap (λ x. take (i - start) (drop start is) ++ x ∷ []) at) ∙ codes-more (take (i - start) (drop start is)) c in
         let next : drop i is ≡ literal c ∷ drop (i + 1) is = drop-more is i any l ∙ ap (λ x. x ∷ drop (i + 1) is) at in
         let all = so-far .1 .all in
         let long = length-append run (c ∷ []) in
@@ -90,17 +91,19 @@ module _ (r : Reference) (is : List Item) where
           so-far .0,
           record { inside = omega arith; all = omega arith },
           ap (λ cs. best r (anchor-at is (old .start) (old .len)) (literal-runs (take start is) cs (drop (i + 1) is))) more
-          ∙ sym (ap (λ xs. best r (anchor-at is (old .start) (old .len)) (literal-runs (take start is) run xs)) next)
-          ∙ so-far .2,
+              ∙ sym (ap (λ xs. best r (anchor-at is (old .start) (old .len)) (literal-runs (take start is) run xs)) next)
+              ∙ so-far .2,
         )
 
     -- the run ends here: the better of the two is chosen
     module _ (new : Literals) (chosen : new ≡ cond (replaces r (old .len) (i - start)) (record { start = start; len = i - start }) old) where
+      -- the chosen one is a run of literals
       new-run : Literal-run is (new .start) (new .len)
       new-run =
           subst (λ (x : Literals). Literal-run is (x .start) (x .len)) (sym chosen)
           (cond-both (replaces r (old .len) (i - start)) (record { start = start; len = i - start }) old (λ (x : Literals). Literal-run is (x .start) (x .len)) (λ _. so-far .1) (λ _. so-far .0))
 
+      -- the choice is that of the definition
       picked : (more : List Anchor)
           → best r (anchor-at is (old .start) (old .len)) (ended (take start is) (literal-codes (take (i - start) (drop start is))) (drop i is) ++ more)
           ≡ best r (anchor-at is (new .start) (new .len)) more
@@ -129,22 +132,22 @@ module _ (r : Reference) (is : List Item) where
           let read : map literal run ≡ take (i - start) (drop start is) = all-literals (take (i - start) (drop start is)) (omega arith) in
           let on : start + (i + 1 - start) ≡ i + 1 = omega arith in
           let front : take start is ++ (map literal run ++ x ∷ []) ≡ take (i + 1) is =
-              ap (λ xs. take start is ++ (xs ++ x ∷ [])) read
-              ∙ ap (λ xs. take start is ++ xs) (sym (stretch-more is start i any ordered l))
-              ∙ sym (take-add start (i + 1 - start) is)
-              ∙ ap (λ n. take n is) on in
+          ap (λ xs. take start is ++ (xs ++ x ∷ [])) read
+          ∙ ap (λ xs. take start is ++ xs) (sym (stretch-more is start i any ordered l))
+          ∙ sym (take-add start (i + 1 - start) is)
+          ∙ ap (λ n. take n is) on in
           let empty : literal-codes (take (i + 1 - (i + 1)) (drop (i + 1) is)) ≡ [] = ap (λ n. literal-codes (take n (drop (i + 1) is))) none in
           let ends : literal-runs (take start is) run (drop i is) ≡ ended (take start is) run (drop i is) ++ literal-runs (take (i + 1) is) (literal-codes (take (i + 1 - (i + 1)) (drop (i + 1) is))) rest =
-              ap (literal-runs (take start is) run) next
-              ∙ ap (λ o. elim o [ Some c ↦ literal-runs (take start is) (run ++ c ∷ []) rest | None ↦ ended (take start is) run (x ∷ rest) ++ literal-runs (take start is ++ (map literal run ++ x ∷ [])) [] rest ]) at
-              ∙ ap (λ xs. ended (take start is) run (x ∷ rest) ++ literal-runs xs [] rest) front
-              ∙ ap (λ cs. ended (take start is) run (x ∷ rest) ++ literal-runs (take (i + 1) is) cs rest) (sym empty)
-              ∙ ap (λ xs. ended (take start is) run xs ++ literal-runs (take (i + 1) is) (literal-codes (take (i + 1 - (i + 1)) (drop (i + 1) is))) rest) (sym next) in (
+          ap (literal-runs (take start is) run) next
+          ∙ ap (λ o. elim o [ Some c ↦ literal-runs (take start is) (run ++ c ∷ []) rest | None ↦ ended (take start is) run (x ∷ rest) ++ literal-runs (take start is ++ (map literal run ++ x ∷ [])) [] rest ]) at
+          ∙ ap (λ xs. ended (take start is) run (x ∷ rest) ++ literal-runs xs [] rest) front
+          ∙ ap (λ cs. ended (take start is) run (x ∷ rest) ++ literal-runs (take (i + 1) is) cs rest) (sym empty)
+          ∙ ap (λ xs. ended (take start is) run xs ++ literal-runs (take (i + 1) is) (literal-codes (take (i + 1 - (i + 1)) (drop (i + 1) is))) rest) (sym next) in (
             new-run,
             record { inside = omega arith; all = ap length empty ∙ sym none },
             sym (picked (literal-runs (take (i + 1) is) (literal-codes (take (i + 1 - (i + 1)) (drop (i + 1) is))) rest))
-            ∙ sym (ap (best r before) ends)
-            ∙ so-far .2,
+                ∙ sym (ap (best r before) ends)
+                ∙ so-far .2,
           )
 
       -- at the end
@@ -154,7 +157,7 @@ module _ (r : Reference) (is : List Item) where
           let before = anchor-at is (old .start) (old .len) in
           let none : drop i is ≡ [] = drop-all i is (omega arith) in
           let ends : literal-runs (take start is) run (drop i is) ≡ ended (take start is) run (drop i is) ++ [] =
-              ap (literal-runs (take start is) run) none ∙ sym (append-nil (ended (take start is) run [])) ∙ ap (λ b. ended (take start is) run b ++ []) (sym none) in
+          ap (literal-runs (take start is) run) none ∙ sym (append-nil (ended (take start is) run [])) ∙ ap (λ b. ended (take start is) run b ++ []) (sym none) in
           record {
             literals = new-run;
             anchored = sym (so-far .2) ∙ ap (best r before) ends ∙ picked [];

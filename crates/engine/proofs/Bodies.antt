@@ -21,20 +21,24 @@ stretch-more xs start i d h l =
     ∙ take-more (drop start xs) (i - start) d (omega arith)
     ∙ ap (λ x. take (i - start) (drop start xs) ++ x ∷ []) (getD-drop start xs (i - start) d ∙ ap (λ k. getD xs k d) at)
 
+-- parts have as many items
 pub part-items-length : (codes : List ℕ) (runs : List Run) (ps : List PlacedPart) → length (part-items codes runs ps) ≡ length ps
 part-items-length codes runs [] = refl
 part-items-length codes runs (p ∷ ps) = ap suc (part-items-length codes runs ps)
 
+-- the item at a place is that of the part there
 pub part-items-at : (codes : List ℕ) (runs : List Run) (ps : List PlacedPart) (i : ℕ) (d : PlacedPart) → i < length ps → getD (part-items codes runs ps) i any ≡ item-of codes runs (getD ps i d .part)
 part-items-at codes runs [] i d l = absurd (omega arith)
 part-items-at codes runs (p ∷ ps) zero d l = refl
 part-items-at codes runs (p ∷ ps) (suc i) d (suc-le-suc l) = part-items-at codes runs ps i d l
 
+-- the items of the first parts
 pub part-items-take : (codes : List ℕ) (runs : List Run) (n : ℕ) (ps : List PlacedPart) → part-items codes runs (take n ps) ≡ take n (part-items codes runs ps)
 part-items-take codes runs zero ps = refl
 part-items-take codes runs (suc n) [] = refl
 part-items-take codes runs (suc n) (p ∷ ps) = ap (λ is. item-of codes runs (p .part) ∷ is) (part-items-take codes runs n ps)
 
+-- the items of the parts from a place on
 pub part-items-drop : (codes : List ℕ) (runs : List Run) (n : ℕ) (ps : List PlacedPart) → part-items codes runs (drop n ps) ≡ drop n (part-items codes runs ps)
 part-items-drop codes runs zero ps = refl
 part-items-drop codes runs (suc n) [] = refl

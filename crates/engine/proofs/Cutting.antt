@@ -1,5 +1,5 @@
 -- The cut of items into fragments, one item at a time.
-use mathlib.Core.Path.{_≡_, refl, sym, ap, subst, _∙_}
+use mathlib.Core.Path.{_≡_, refl, sym, ap, _∙_}
 use mathlib.Core.Bool.{Bool, true, false, not, _||_}
 use mathlib.Core.List.{List, [], _∷_, _++_}
 use Prim.Native.Nat.{ℕ, _+_, _-_, _≤_, _<_}
@@ -24,19 +24,22 @@ use Rattle.engine.specs.declared.run.Run.{Run}
 use Rattle.engine.specs.declared.token.Gap.{Gap}
 use Rattle.engine.proofs.Bodies.{stretch-more}
 
+-- tests joined in another order
 or-assoc : (x y z : Bool) → ((x || y) || z) ≡ (x || (y || z))
 or-assoc true y z = refl
 or-assoc false y z = refl
 
+-- a test joined with one that fails
 or-false : (x : Bool) → (x || false) ≡ x
 or-false true = refl
 or-false false = refl
 
--- a test of some items, and a sum over them, with one item more
+-- a test of some items, with one item more
 some-more : (p : Item → Bool) (qs : List Placed) (q : Placed) → some p (qs ++ q ∷ []) ≡ (some p qs || p (q .item))
 some-more p [] q = or-false (p (q .item))
 some-more p (x ∷ qs) q = ap (λ b. p (x .item) || b) (some-more p qs q) ∙ sym (or-assoc (p (x .item)) (some p qs) (p (q .item)))
 
+-- a sum over items, with one item more
 sum-more : (f : Item → ℕ) (qs : List Placed) (q : Placed) → sum f (qs ++ q ∷ []) ≡ sum f qs + f (q .item)
 sum-more f [] q = add-zero (f (q .item)) ∙ sym (zero-add (f (q .item)))
 sum-more f (x ∷ qs) q = ap (λ n. f (x .item) + n) (sum-more f qs q) ∙ sym (add-assoc (f (x .item)) (sum f qs) (f (q .item)))
@@ -53,6 +56,7 @@ module _ (qs : List Placed) where
     pub summed : between ≡ sum least (row end i)
     pub cuts : (break : ℕ) → cut-from break [] [] qs ≡ cut-from break (take end qs) (row end i) (drop i qs)
 
+  -- before the first item
   pub cutting-begins : Cutting 0 0 false 0
   cutting-begins = record { ordered = omega arith; tested = refl; summed = refl; cuts = λ _. refl }
 
@@ -65,9 +69,11 @@ module _ (qs : List Placed) where
         (omega arith, λ break. so-far .cuts break ∙ ap (cut-from break (take end qs) (row end i)) none)
 
     module _ (q : Placed) (inside : i < length qs) (here : getD qs i q ≡ q) where
+      -- the items from here on begin with this one
       next : drop i qs ≡ q ∷ drop (i + 1) qs
       next = drop-more qs i q inside ∙ ap (λ x. x ∷ drop (i + 1) qs) here
 
+      -- the row with this item
       more : row end (i + 1) ≡ row end i ++ q ∷ []
       more = stretch-more qs end i q (so-far .ordered) inside ∙ ap (λ x. row end i ++ x ∷ []) here
 
@@ -83,6 +89,7 @@ module _ (qs : List Placed) where
                 ]
           ]
 
+      -- the cut of the items goes on with that step
       stepped : (break : ℕ) → cut-from break [] [] qs ≡ step break (is-gap (q .item)) (some endless (row end i))
       stepped break = so-far .cuts break ∙ ap (cut-from break (take end qs) (row end i)) next
 
@@ -121,21 +128,21 @@ module _ (qs : List Placed) where
       cutting-cuts thing opened =
           let before = so-far .ordered in
           let some-row : end ≡ i → ⊥ = λ e.
-                  let none : i - end ≡ 0 = omega arith in
-                  both-ways open-ended (so-far .tested ∙ ap (λ n. some endless (take n (drop end qs))) none) opened in
+          let none : i - end ≡ 0 = omega arith in
+          both-ways open-ended (so-far .tested ∙ ap (λ n. some endless (take n (drop end qs))) none) opened in
           let first : (break : ℕ) → cut-from break [] [] (drop i qs) ≡ cut-from break (q ∷ []) [] (drop (i + 1) qs) =
-              λ break. ap (cut-from break [] []) next
-              ∙ ap (λ b. elim b [ true ↦ cut-from break [] (q ∷ []) (drop (i + 1) qs) | false ↦ cut-from break (q ∷ []) [] (drop (i + 1) qs) ]) thing in (
+          λ break. ap (cut-from break [] []) next
+          ∙ ap (λ b. elim b [ true ↦ cut-from break [] (q ∷ []) (drop (i + 1) qs) | false ↦ cut-from break (q ∷ []) [] (drop (i + 1) qs) ]) thing in (
             omega (arith, some-row),
             inside,
             λ break. stepped break
-            ∙ ap (λ b. step break b (some endless (row end i))) thing
-            ∙ ap (step break false) (sym (so-far .tested) ∙ opened)
-            ∙ ap (λ n. record { break = break; body = take end qs } ∷ cut-from n (q ∷ []) [] (drop (i + 1) qs)) (sym (so-far .summed))
-            ∙ ap (λ fs. record { break = break; body = take end qs } ∷ fs) (sym (first between)),
+                ∙ ap (λ b. step break b (some endless (row end i))) thing
+                ∙ ap (step break false) (sym (so-far .tested) ∙ opened)
+                ∙ ap (λ n. record { break = break; body = take end qs } ∷ cut-from n (q ∷ []) [] (drop (i + 1) qs)) (sym (so-far .summed))
+                ∙ ap (λ fs. record { break = break; body = take end qs } ∷ fs) (sym (first between)),
           )
 
--- the item of a part that is no gap, and of one that is
+-- the item of a part that is no gap
 pub no-gap : (codes : List ℕ) (runs : List Run) (p : Part) → ((g : Gap) → p ≡ part.Gap g → ⊥) → is-gap (item-of codes runs p) ≡ false
 no-gap codes runs (part.Literal c) h = refl
 no-gap codes runs part.Any h = refl
@@ -144,6 +151,7 @@ no-gap codes runs (part.Range d inside low high) h = refl
 no-gap codes runs (part.Other run) h = refl
 no-gap codes runs (part.Gap g) h = absurd (h g refl)
 
+-- a gap is endless where it has no upper end
 pub endless-gap : (m : ℕ) (n : Option ℕ) → endless (pattern.gap m n) ≡ not (isSome n)
 endless-gap m None = refl
 endless-gap m (Some n) = refl

@@ -1,12 +1,10 @@
 -- The table of shifts, one code more at a time.
 use mathlib.Core.Path.{_≡_, refl, sym, ap, subst, _∙_}
-use mathlib.Core.Bool.{Bool, true, false, cond}
+use mathlib.Core.Bool.{cond}
 use mathlib.Core.List.{List, [], _∷_}
-use mathlib.Core.Logic.{_≢_, ⊎-elim}
+use mathlib.Core.Logic.{⊎-elim}
 use Prim.Native.Nat.{ℕ, suc, min, _+_, _-_, _%_, _≤_, _<_}
 use native.Mathlib.Omega.{arith}
-use native.Mathlib.Nat.{min-eq-right, mod-lt}
-use lib.Dec.{eqb}
 use lib.ListN.{length, getD, set, drop, replicate, length-drop}
 use lib.Seq.{getD-set-same, getD-set-other}
 use Rattle.std.proofs.shelf.Lists.{getD-replicate, at-drop-more}
@@ -45,8 +43,8 @@ module _ (table : List ℕ) (whole : length table ≡ 256) (c : ℕ) (cs : List 
       let least : min (getD table index 0) (suc (length cs)) ≡ distance = omega (arith, becomes .0) in (
         omega arith,
         ap (λ n. smallest n (distances cs index)) (written ∙ sym least)
-        ∙ sym (ap (λ b. smallest (getD table index 0) (cond b (suc (length cs) ∷ distances cs index) (distances cs index))) (eq-eqb (c % 256) index here))
-        ∙ becomes .1,
+            ∙ sym (ap (λ b. smallest (getD table index 0) (cond b (suc (length cs) ∷ distances cs index) (distances cs index))) (eq-eqb (c % 256) index here))
+            ∙ becomes .1,
       )
 
   -- it has another
@@ -55,10 +53,11 @@ module _ (table : List ℕ) (whole : length table ≡ 256) (c : ℕ) (cs : List 
       let kept : getD (set table (c % 256) distance) index 0 ≡ getD table index 0 = getD-set-other table (c % 256) index distance 0 (λ e. there (sym e)) in (
         omega (arith, becomes .0),
         ap (λ n. smallest n (distances cs index)) kept
-        ∙ sym (ap (λ b. smallest (getD table index 0) (cond b (suc (length cs) ∷ distances cs index) (distances cs index))) (ne-eqb (c % 256) index there))
-        ∙ becomes .1,
+            ∙ sym (ap (λ b. smallest (getD table index 0) (cond b (suc (length cs) ∷ distances cs index) (distances cs index))) (ne-eqb (c % 256) index there))
+            ∙ becomes .1,
       )
 
+  -- in either case
   pub written : Becomes (set table (c % 256) distance) cs distance result index
   written = ⊎-elim write-here write-there (cases-eq (c % 256) index)
 
@@ -98,9 +97,9 @@ module _ (table : List ℕ) (distance i : ℕ) (ps : List PlacedPart) (d : Place
       let next : distance - 1 ≡ suc (length cs) = omega arith in (
         omega arith,
         λ index h.
-          let result = shift (literal-codes (part-items codes runs ps)) index in
-          written table whole c cs (distance - 1) next result index h
-          (subst (λ k. Becomes table (c ∷ cs) k result index) (sym back) (subst (λ ks. Becomes table ks distance result index) on (before .1 index h))),
+            let result = shift (literal-codes (part-items codes runs ps)) index in
+            written table whole c cs (distance - 1) next result index h
+            (subst (λ k. Becomes table (c ∷ cs) k result index) (sym back) (subst (λ ks. Becomes table ks distance result index) on (before .1 index h))),
       )
 
   -- no literal, so that not all are literals

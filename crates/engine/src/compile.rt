@@ -3,14 +3,14 @@ ghost use mathlib.Core.Bool.{true, cond};
 ghost use mathlib.Core.List.{List, map};
 ghost use mathlib.Core.Path.{_≡_};
 ghost use Prim.Native.Nat.{ℕ, _+_, _-_, _≤_, _<_};
-ghost use lib.ListN.{length, getD, take, drop};
+ghost use lib.ListN.{length, take, drop};
 ghost use Rattle.engine.specs.Compiled.{literal-codes, Holds, Hold};
 ghost use Rattle.engine.specs.Compiling.{part-items, replaces, Anchors, Shifts, Cuts};
 ghost use Rattle.engine.specs.Reading.{held};
 ghost use Rattle.engine.specs.Stored.{items as items-of, item-of, run-codes, runs-within, part-within, parts-within};
 ghost use Rattle.engine.specs.declared.cause.Cause.the-variants.{Memory};
 ghost use Rattle.engine.specs.declared.run.Run.{Run as StoredRun};
-ghost use Rattle.kinds.specs.Fragments.{shortest as shortest-of, least as least-of, sum-least, shift, fragments as fragments-from};
+ghost use Rattle.kinds.specs.Fragments.{shortest as shortest-of, least as least-of, sum-least, fragments as fragments-from};
 ghost use Rattle.std.specs.Of.Vec.{vec-items};
 ghost use Rattle.std.specs.Results.{Cases};
 use crate::cause::Cause;
@@ -123,11 +123,7 @@ fn better(reference: Reference, old: Literals, new: Literals) -> Literals
         Reference::Back => old.len < new.len,
         Reference::Front | Reference::Anywhere => old.len <= new.len,
     };
-    if new.len > 0 && replaces {
-        new
-    } else {
-        old
-    }
+    if new.len > 0 && replaces { new } else { old }
 }
 
 // The anchor of a fragment's parts: its best run of literals, or an empty one behind them where there is no literal.

@@ -33,25 +33,25 @@ loop-i-again c =
     elim (c .if-not-matches .came) [
       | then-not-matches w ↦
           let none : (n : ℕ) → getD ps i (record { place = 0; part = part.Literal 0 }) .part ≡ part.Literal n → ⊥ =
-              elim (c .match-matches .came) [ in-Literal v ↦ absurd (both-ways _ (w .if-not-matches .taken) (v .matches-is)) | in-rest v ↦ v .in-rest .not-Literal ] in
+          elim (c .match-matches .came) [ in-Literal v ↦ absurd (both-ways _ (w .if-not-matches .taken) (v .matches-is)) | in-rest v ↦ v .in-rest .not-Literal ] in
           subst (λ s. Next s (c .if-not-matches .best)) (sym (w .start-is)) (subst (λ old. Next (i + 1) old) (sym (w .best-is)) (
             omega arith,
             λ codes runs.
-              let long = part-items-length codes runs ps in
-              let inside = c .loop-i-test .taken in
-              search-other r (part-items codes runs ps) start i (c .loop-i .best) (inv .0) (inv .1 codes runs) (w .better-best .result) (w .better-best .ensures) (omega arith)
-              (ap literal-code (part-items-at codes runs ps i _ inside) ∙ no-code codes runs _ none),
+                let long = part-items-length codes runs ps in
+                let inside = c .loop-i-test .taken in
+                search-other r (part-items codes runs ps) start i (c .loop-i .best) (inv .0) (inv .1 codes runs) (w .better-best .result) (w .better-best .ensures) (omega arith)
+                (ap literal-code (part-items-at codes runs ps i _ inside) ∙ no-code codes runs _ none),
           ))
       | else-not-matches w ↦
           let some : (n : ℕ) × (getD ps i (record { place = 0; part = part.Literal 0 }) .part ≡ part.Literal n) =
-              elim (c .match-matches .came) [ in-Literal v ↦ (_, v .in-Literal .is) | in-rest v ↦ absurd (both-ways _ (v .matches-is) (w .if-not-matches .left)) ] in
+          elim (c .match-matches .came) [ in-Literal v ↦ (_, v .in-Literal .is) | in-rest v ↦ absurd (both-ways _ (v .matches-is) (w .if-not-matches .left)) ] in
           subst (λ s. Next s (c .if-not-matches .best)) (sym (w .start-is)) (subst (λ old. Next start old) (sym (w .best-is)) (
             omega arith,
             λ codes runs.
-              let long = part-items-length codes runs ps in
-              let inside = c .loop-i-test .taken in
-              search-literal r (part-items codes runs ps) start i (c .loop-i .best) (inv .0) (inv .1 codes runs) (some .0) (omega arith)
-              (part-items-at codes runs ps i _ inside ∙ ap (item-of codes runs) (some .1)),
+                let long = part-items-length codes runs ps in
+                let inside = c .loop-i-test .taken in
+                search-literal r (part-items codes runs ps) start i (c .loop-i .best) (inv .0) (inv .1 codes runs) (some .0) (omega arith)
+                (part-items-at codes runs ps i _ inside ∙ ap (item-of codes runs) (some .1)),
           ))
     ]
 

@@ -12,6 +12,7 @@ use Rattle.engine.proofs.Cutting.{Cutting, cutting-begins, cutting-ends, cutti
 use Rattle.engine.proofs.compile.cut_first.Needs as need
 use Rattle.engine.proofs.compile.cut_first.Needs.{in-Gap·in-Continue-between, then-endless, else-endless, in-rest·else-endless-2}
 
+-- a test that is turned twice
 not-not : (b : Bool) → not (not b) ≡ b
 not-not true = refl
 not-not false = refl

@@ -38,6 +38,6 @@ loop-fragments-again c =
     let h = starts-within (c .args .pattern .now) (c .as-slice-parts .result .now) (c .as-slice-parts .ensures .value) (c .loop-fragments .first) (c .loop-fragments .inv .0) (c .in-Continue-cut .cut) (c .in-Continue-cut .ensures tt) (c .in-Some .start) (c .in-Some .between) (c .in-Some .is) in (
       omega arith,
       pushed-more (c .args .pattern .now) (c .as-slice-parts .result .now) (c .as-slice-parts .ensures .value) (c .loop-fragments .first) (c .loop-fragments .inv .0) (c .in-Continue-cut .cut) (c .in-Continue-cut .ensures tt)
-      (c .in-Some .start) (c .in-Some .between) (c .in-Some .is) (c .args .reference) (c .loop-fragments .gap) (c .in-Continue-fragment .fragment) (c .in-Continue-fragment .ensures tt)
-      (vec-items (c .loop-fragments .fragments)) (vec-items (c .push .last .self)) _ (c .loop-fragments .inv .1) (c .in-Continue-push .ensures tt .items),
+          (c .in-Some .start) (c .in-Some .between) (c .in-Some .is) (c .args .reference) (c .loop-fragments .gap) (c .in-Continue-fragment .fragment) (c .in-Continue-fragment .ensures tt)
+          (vec-items (c .loop-fragments .fragments)) (vec-items (c .push .last .self)) _ (c .loop-fragments .inv .1) (c .in-Continue-push .ensures tt .items),
     )

@@ -1,12 +1,4 @@
-use mathlib.Core.Path.{_≡_, sym, ap, subst, _∙_}
-use mathlib.Core.Bool.{true}
-use Prim.Native.Nat.{_+_, _≤_}
-use native.Mathlib.Omega.{arith}
-use lib.ListN.{length, take, drop}
 use Rattle.std.specs.Of.Vec.{vec-items}
-use Rattle.kinds.specs.Fragments as spec
-use Rattle.engine.specs.Stored.{item-of, part-within}
-use Rattle.engine.specs.declared.part.Part.{Part}
 use Rattle.engine.proofs.Lengths.{least-group, least-other, least-range}
 use Rattle.engine.proofs.compile.least.Needs as need
 

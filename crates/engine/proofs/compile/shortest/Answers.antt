@@ -1,16 +1,14 @@
 use mathlib.Core.Path.{_≡_, refl, sym, ap, subst, _∙_}
 use mathlib.Core.Bool.{true}
-use mathlib.Core.List.{List, [], _∷_, map}
-use Prim.Native.Nat.{ℕ, _+_, _-_, _≤_, _<_}
+use mathlib.Core.List.{_∷_, map}
+use Prim.Native.Nat.{_+_, _-_, _<_}
 use native.Mathlib.Omega.{arith}
-use borrow.Author.Needs.{needs}
 use lib.ListN.{length, getD, take, drop}
 use Rattle.std.proofs.shelf.Lists.{nil-from-length, at-drop-more, at-drop-all}
 use Rattle.std.proofs.shelf.Parts.{first-rest}
 use Rattle.std.proofs.shelf.Tests.{eqb-true, eqb-false}
 use Rattle.kinds.specs.Fragments as spec
 use Rattle.engine.specs.Stored.{run-codes, runs-within}
-use Rattle.engine.specs.declared.run.Run.{Run}
 use Rattle.engine.proofs.Lengths.{least-len, shortest-is}
 use Rattle.engine.proofs.compile.shortest.Needs as need
 

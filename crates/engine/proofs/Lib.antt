@@ -1,11 +1,17 @@
+pub mod Anchoring
+pub mod Assembling
+pub mod Bodies
 pub mod Classes
+pub mod Cutting
 pub mod Gaps
 pub mod Growth
 pub mod Items
+pub mod Lengths
 pub mod Machine
 pub mod Mirrored
 pub mod Runs
 pub mod Scans
+pub mod Shifting
 pub mod Shows
 pub mod Steps
 pub mod Tallies

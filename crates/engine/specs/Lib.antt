@@ -1,4 +1,5 @@
 pub mod Compiled
+pub mod Compiling
 pub mod Contexts
 pub mod Faults
 pub mod Limits

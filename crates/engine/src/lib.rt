@@ -1,6 +1,9 @@
 // The engine: it reads pattern texts, compiles them, and searches readings.
-pub mod cause;
 mod context;
+mod step;
+mod store;
+pub mod cause;
+pub mod compile;
 pub mod fault;
 pub mod fragment;
 pub mod lexer;
@@ -11,7 +14,5 @@ pub mod pattern;
 pub mod reader;
 pub mod run;
 pub mod sequence;
-mod step;
-mod store;
 pub mod text;
 pub mod token;

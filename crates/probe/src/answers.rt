@@ -2,6 +2,9 @@
 use crate::complaint::Complaint;
 use crate::complaint::ComplaintFromAlloc;
 use crate::complaint::ComplaintFromSpelling;
+use crate::patterns::Words;
+use crate::patterns::read;
+use crate::patterns::shown;
 use kinds::backward::Backward;
 use kinds::backward::BackwardReading;
 use kinds::byte::Byte;
@@ -31,7 +34,17 @@ pub fn answer(heap: Global, line: &str) -> Result<String, Complaint> {
         ["codes", kind, elements] => codes(heap, kind, elements),
         ["backward", kind, elements] => backward(heap, kind, elements),
         ["marks", bytes] => marks(heap, bytes),
-        ["codes" | "backward" | "marks", ..] => Err(Complaint::NumberOfWords),
+        ["read", kind, text] => read(heap, kind, text),
+        ["show", kind, reference, lo, hi, text, fragment, index] => {
+            let words = Words {
+                reference,
+                lo,
+                hi,
+                text,
+            };
+            shown(heap, kind, words, fragment, index)
+        }
+        ["codes" | "backward" | "marks" | "read" | "show", ..] => Err(Complaint::NumberOfWords),
         _ => Err(Complaint::UnknownCommand),
     }
 }

@@ -15,6 +15,11 @@ pub enum Complaint {
     NumberOfWords,
     OddCharacters,
     Unnamed(usize),
+    UnknownReference,
+    NotANumber,
+    NotAnIndex,
+    OffsetsAnywhere,
+    OffsetsCrossed,
 }
 
 pub impl fmt::Display for Complaint as ComplaintDisplay {
@@ -29,6 +34,11 @@ pub impl fmt::Display for Complaint as ComplaintDisplay {
             Complaint::NumberOfWords => write!(f, "wrong number of words"),
             Complaint::OddCharacters => write!(f, "odd number of characters"),
             Complaint::Unnamed(place) => write!(f, "no element is named at {place}"),
+            Complaint::UnknownReference => write!(f, "unknown reference"),
+            Complaint::NotANumber => write!(f, "not a number from 0 to 65535"),
+            Complaint::NotAnIndex => write!(f, "not an index of two hexadecimal digits"),
+            Complaint::OffsetsAnywhere => write!(f, "V takes the offsets 0 0"),
+            Complaint::OffsetsCrossed => write!(f, "the least offset is above the greatest"),
         }
     }
 }

@@ -1,9 +1,9 @@
 -- Anchors: what a fragment spans it spans through its anchor, so a search from anchor to anchor finds the least end.
 use mathlib.Core.Path.{_≡_, refl, sym, ap, ap₂, subst, subst₂, _∙_}
-use mathlib.Core.Bool.{Bool, true, false, cond, _||_}
+use mathlib.Core.Bool.{Bool, true, false, cond}
 use mathlib.Core.List.{List, [], _∷_, _++_, map, reverse}
-use mathlib.Core.Logic.{inl, inr, ⊎-elim, _↔_}
-use Prim.Native.Nat.{ℕ, zero, suc, min, max, _+_, _-_, _≤_, _<_}
+use mathlib.Core.Logic.{_⊎_, inl, inr, ⊎-elim, _↔_}
+use Prim.Native.Nat.{ℕ, zero, suc, _+_, _-_, _≤_, _<_}
 use native.Mathlib.Omega.{arith}
 use lib.Dec.{leb, ltb}
 use lib.ListN.{length, take, drop}
@@ -12,16 +12,17 @@ use Rattle.std.specs.Orderings.{Decides}
 use Rattle.std.specs.shelf.Lists.{All}
 use Rattle.std.specs.declared.option.Option.{Option}
 use Rattle.std.specs.declared.option.Option.the-variants.{Some, None}
-use Rattle.std.proofs.shelf.Elements.{all-append}
+use Rattle.std.proofs.shelf.Elements.{all-append, all-weaker}
 use Rattle.std.proofs.shelf.Lists.{append-nil, append-assoc, map-append, reverse-append, reverse-reverse, length-append, length-take, length-drop, length-reverse, take-at}
-use Rattle.std.proofs.shelf.Tests.{false≢true, true≢false, both-ways, leb-true, le-leb, ltb-false, cases-bool, cases-lt, cond-both, or-parts}
+use Rattle.std.proofs.shelf.Tests.{false≢true, true≢false, both-ways, leb-true, leb-false, le-leb, ltb-false, cases-bool, cases-lt, cond-both, or-cases, or-parts}
 use Rattle.std.proofs.shelf.Ways.{decides-like, decides-and}
 use Rattle.kinds.specs.Fragments.{Fragment, fragments, cut-from, bodies, sum, least, span, shortest, longest, some, is-gap, endless, fragment-place, limit-place, first-place}
-use Rattle.kinds.specs.Fragments.{Anchor, ended, literal-code, literal-runs, better, best, anchor, sum-least}
+use Rattle.kinds.specs.Fragments.{Anchor, ended, literal-code, is-literal, literal-runs, better, best, anchor, sum-least}
 use Rattle.kinds.specs.Grammar.{Placed}
 use Rattle.kinds.specs.Patterns.{Item, literal, any, group, range, other, gap, Among, AtMost, Matches, Cut, matches, mirrored}
 use Rattle.kinds.specs.Search.{stretch, least-end, stands-at, first-fit-from, first-fit, reaches}
 use Rattle.kinds.specs.declared.pattern.Reference.{Reference}
+use Rattle.kinds.specs.declared.pattern.Reference.the-variants.{Front, Back, Anywhere}
 use Rattle.kinds.proofs.Decisions.{same-decides, cuts-decides, matches-decides}
 use Rattle.kinds.proofs.Mirrors.{mirrored-twice, cut-one, cut-mirrored}
 use Rattle.kinds.proofs.Searches.{length-stretch, Spans, spans-joined, spans-parted, Ends, Least-end, least-end-is, bodies-append, cut-gap, cut-thing, cut-held, kept-none, fragments-none}
@@ -32,11 +33,15 @@ use Rattle.kinds.proofs.Searches.{length-stretch, Spans, spans-joined, spans-p
 abbrev pub Splits : List Item → Anchor → Type 0
 Splits items a = items ≡ a .front ++ (map literal (a .codes) ++ a .back)
 
+-- a run of literals in the items has a code, and splits the items
+abbrev Run-of : List Item → Anchor → Type 0
+Run-of items a = (0 < length (a .codes)) × Splits items a
+
 -- a run that ends leaves what was read before it and what is left
 ended-splits : (items front : List Item) (run : List ℕ) (back : List Item)
-    → items ≡ front ++ (map literal run ++ back) → All (Splits items) (ended front run back)
+    → items ≡ front ++ (map literal run ++ back) → All (Run-of items) (ended front run back)
 ended-splits items front [] back e = tt
-ended-splits items front (c ∷ cs) back e = (e, tt)
+ended-splits items front (c ∷ cs) back e = ((omega arith, e), tt)
 
 -- an item with a code is that literal
 code-literal : (i : Item) (c : ℕ) → literal-code i ≡ Some c → i ≡ literal c
@@ -47,25 +52,26 @@ code-literal (range d inside low high) c e = cc
 code-literal (other run) c e = cc
 code-literal (gap m n) c e = cc
 
--- every run of literals splits the items that it was read from
+-- the longest runs of literals are runs of the items that they were read from
 runs-split : (items front : List Item) (run : List ℕ) (is : List Item)
-    → items ≡ front ++ (map literal run ++ is) → All (Splits items) (literal-runs front run is)
+    → items ≡ front ++ (map literal run ++ is) → All (Run-of items) (literal-runs front run is)
 runs-split items front run [] e = ended-splits items front run [] e
 runs-split items front run (i ∷ is) e =
     go (literal-code i) refl (λ c. runs-split items front (run ++ c ∷ []) is) (runs-split items (front ++ (map literal run ++ i ∷ [])) [] is)
   where
+    later : List Item
+    later = front ++ (map literal run ++ i ∷ [])
+
     go : (o : Option ℕ) → literal-code i ≡ o
-        → ((c : ℕ) → items ≡ front ++ (map literal (run ++ c ∷ []) ++ is) → All (Splits items) (literal-runs front (run ++ c ∷ []) is))
-        → (items ≡ (front ++ (map literal run ++ i ∷ [])) ++ is → All (Splits items) (literal-runs (front ++ (map literal run ++ i ∷ [])) [] is))
-        → All (Splits items) (elim o [
-          | Some c ↦ literal-runs front (run ++ c ∷ []) is
-          | None ↦ ended front run (i ∷ is) ++ literal-runs (front ++ (map literal run ++ i ∷ [])) [] is
-        ])
-    go (Some c) y longer later =
+        → ((c : ℕ) → items ≡ front ++ (map literal (run ++ c ∷ []) ++ is) → All (Run-of items) (literal-runs front (run ++ c ∷ []) is))
+        → (items ≡ later ++ is → All (Run-of items) (literal-runs later [] is))
+        → All
+        (Run-of items)
+        (elim o [ Some c ↦ literal-runs front (run ++ c ∷ []) is | None ↦ ended front run (i ∷ is) ++ literal-runs later [] is ])
+    go (Some c) y longer next =
         longer c (e ∙ ap (λ j. front ++ (map literal run ++ j ∷ is)) (code-literal i c y) ∙ sym (simp (map-append, append-assoc)))
-    go None y longer later =
-        all-append (Splits items) (ended front run (i ∷ is)) (literal-runs (front ++ (map literal run ++ i ∷ [])) [] is)
-        (ended-splits items front run (i ∷ is) e) (later (e ∙ sym (simp append-assoc)))
+    go None y longer next =
+        all-append (Run-of items) (ended front run (i ∷ is)) (literal-runs later [] is) (ended-splits items front run (i ∷ is) e) (next (e ∙ sym (simp append-assoc)))
 
 -- what holds of every run holds of the best
 best-holds : (P : Anchor → Type 0) (r : Reference) (old : Anchor) (more : List Anchor) → P old → All P more → P (best r old more)
@@ -76,8 +82,73 @@ best-holds P r old (new ∷ more) p (q, ps) =
 -- the items are what stands before the anchor, the anchor and what stands behind it
 pub anchor-splits : (r : Reference) (items : List Item) → Splits items (anchor r items)
 anchor-splits r items =
-    best-holds (Splits items) r (record { front = items; codes = []; back = [] }) (literal-runs [] [] items)
-    (sym (append-nil items)) (runs-split items [] [] items refl)
+    let runs = literal-runs [] [] items in
+    let split = all-weaker (Run-of items) (Splits items) (λ a h. h .1) runs (runs-split items [] [] items refl) in
+    best-holds (Splits items) r (record { front = items; codes = []; back = [] }) runs (sym (append-nil items)) split
+
+-- what is kept before a run with a code has a code
+better-codes : (r : Reference) (old new : Anchor) → 0 < length (new .codes) → better r old new ≡ false → 0 < length (old .codes)
+better-codes Front old new h n = omega (arith, leb-false (length (old .codes)) (length (new .codes)) n)
+better-codes Back old new h n = omega (arith, ltb-false (length (old .codes)) (length (new .codes)) n)
+better-codes Anywhere old new h n = omega (arith, leb-false (length (old .codes)) (length (new .codes)) n)
+
+-- the best of some runs with codes has a code
+best-codes : (r : Reference) (old : Anchor) (more : List Anchor)
+    → 0 < length more → All (λ a. 0 < length (a .codes)) more → 0 < length (best r old more .codes)
+best-codes r old [] some-run hs = absurd (omega arith)
+best-codes r old (new ∷ more) some-run (h, hs) =
+    let kept = cond-both (better r old new) new old (λ a. 0 < length (a .codes)) (λ _. h) (better-codes r old new h) in
+    best-holds (λ a. 0 < length (a .codes)) r (cond (better r old new) new old) more kept hs
+
+-- a run that has begun ends as one
+ended-some : (front : List Item) (run : List ℕ) (back : List Item) → 0 < length run → 0 < length (ended front run back)
+ended-some front [] back h = absurd (omega arith)
+ended-some front (c ∷ cs) back h = omega arith
+
+-- what has no code is no literal
+no-code : (i : Item) → literal-code i ≡ None → is-literal i ≡ true → ⊥
+no-code (literal c) e y = let z : _≡_ {A = ℕ} 0 1 = cc in omega arith
+no-code any e y = false≢true y
+no-code (group runs) e y = false≢true y
+no-code (range d inside low high) e y = false≢true y
+no-code (other run) e y = false≢true y
+no-code (gap m n) e y = false≢true y
+
+-- where a run has begun or a literal is left, there is a run
+runs-some : (front : List Item) (run : List ℕ) (qs : List Placed)
+    → (0 < length run) ⊎ (some is-literal qs ≡ true) → 0 < length (literal-runs front run (bodies qs))
+runs-some front run [] (inl h) = ended-some front run [] h
+runs-some front run [] (inr y) = absurd (false≢true y)
+runs-some front run (q ∷ qs) h =
+    go (literal-code (q .item)) refl (λ c. runs-some front (run ++ c ∷ []) qs) (λ y. runs-some later [] qs (inr y)) h
+  where
+    later : List Item
+    later = front ++ (map literal run ++ q .item ∷ [])
+
+    go : (o : Option ℕ) → literal-code (q .item) ≡ o
+        → ((c : ℕ) → (0 < length (run ++ c ∷ [])) ⊎ (some is-literal qs ≡ true) → 0 < length (literal-runs front (run ++ c ∷ []) (bodies qs)))
+        → (some is-literal qs ≡ true → 0 < length (literal-runs later [] (bodies qs)))
+        → (0 < length run) ⊎ (some is-literal (q ∷ qs) ≡ true)
+        → 0 < length {A = Anchor} (elim o [
+          | Some c ↦ literal-runs front (run ++ c ∷ []) (bodies qs)
+          | None ↦ ended front run (bodies (q ∷ qs)) ++ literal-runs later [] (bodies qs)
+        ])
+    go (Some c) e longer next h = longer c (inl (omega (arith, length-append run (c ∷ []))))
+    go None e longer next (inl h) =
+        omega (arith, ended-some front run (bodies (q ∷ qs)) h, length-append (ended front run (bodies (q ∷ qs))) (literal-runs later [] (bodies qs)))
+    go None e longer next (inr y) =
+        elim (or-cases (is-literal (q .item)) (some is-literal qs) y) [
+          | inl here ↦ absurd (no-code (q .item) e here)
+          | inr there ↦ omega (arith, next there, length-append (ended front run (bodies (q ∷ qs))) (literal-runs later [] (bodies qs)))
+        ]
+
+-- the anchor of a fragment with a literal has a code
+pub anchor-codes : (r : Reference) (qs : List Placed) → some is-literal qs ≡ true → 0 < length (anchor r (bodies qs) .codes)
+anchor-codes r qs y =
+    let items = bodies qs in
+    let runs = literal-runs [] [] items in
+    let coded = all-weaker (Run-of items) (λ a. 0 < length (a .codes)) (λ a h. h .0) runs (runs-split items [] [] items refl) in
+    best-codes r (record { front = items; codes = []; back = [] }) runs (runs-some [] [] qs (inr y)) coded
 
 -- What spans through an anchor.
 
@@ -151,6 +222,12 @@ reach-right items xs b e within ordered =
     (λ h. (omega (arith, h .inside), h .cut))
     (reaches-decides items (drop b xs) (e - b))
 
+-- the same, by how far
+pub reach-on : (items : List Item) (xs : List ℕ) (b n : ℕ) → b ≤ length xs → Decides (reaches items (drop b xs) n) (Spans items xs b (b + n))
+reach-on items xs b n within =
+    let far : (b + n) - b ≡ n = omega arith in
+    subst (λ m. Decides (reaches items (drop b xs) m) (Spans items xs b (b + n))) far (reach-right items xs b (b + n) within (omega arith))
+
 -- the last elements before a place, seen from there, are a stretch reversed
 pub stretch-reversed : (xs : List ℕ) (s p : ℕ) → s ≤ p → p ≤ length xs → take (p - s) (reverse (take p xs)) ≡ reverse (stretch xs s p)
 stretch-reversed xs s p ordered within =
@@ -179,6 +256,27 @@ reach-left items xs s p ordered within =
 
     back : Spans items xs s p → (p - s ≤ length (reverse (take p xs))) × Cut (mirrored items) (take (p - s) (reverse (take p xs)))
     back h = (simp (length-reverse, length-take) (omega arith), subst (Cut (mirrored items)) (sym seen) (cut-mirrored items part (h .cut)))
+
+-- so some allowed start leads up to a place exactly when the mirrored items reach back to one
+pub ends-left : (items : List Item) (from : ℕ) (until : Option ℕ) (xs : List ℕ) (p : ℕ) → p ≤ length xs
+    → Ends items from until xs p
+    ↔ ((d : ℕ) × (d ≤ p) × (from ≤ p - d) × AtMost until (p - d) × (reaches (mirrored items) (reverse (take p xs)) d ≡ true))
+ends-left items from until xs p within = (there, back)
+  where
+    there : Ends items from until xs p
+        → (d : ℕ) × (d ≤ p) × (from ≤ p - d) × AtMost until (p - d) × (reaches (mirrored items) (reverse (take p xs)) d ≡ true)
+    there h =
+        let ordered = h .spans .ordered in
+        let same : h .begins ≡ p - (p - h .begins) = omega arith in
+        let y = reach-left items xs (h .begins) p ordered within .1 (h .spans) in
+        (p - h .begins, omega arith, omega (arith, h .late), subst (AtMost until) same (h .early), y)
+
+    back : (d : ℕ) × (d ≤ p) × (from ≤ p - d) × AtMost until (p - d) × (reaches (mirrored items) (reverse (take p xs)) d ≡ true)
+        → Ends items from until xs p
+    back (d, fits, late, early, y) =
+        let same : d ≡ p - (p - d) = omega arith in
+        let reached = subst (λ n. reaches (mirrored items) (reverse (take p xs)) n ≡ true) same y in
+        record { begins = p - d; late = late; early = early; spans = reach-left items xs (p - d) p (omega arith) within .0 reached }
 
 -- what is reached is spanned from the start
 pub reaches-spans : (items : List Item) (xs : List ℕ) (k : ℕ) → Decides (reaches items xs k) (Spans items xs 0 k)

@@ -382,12 +382,13 @@ matches-least (range d false low high) xs m = omega (arith, m .0)
 matches-least (other run) xs m = omega (arith, m .0)
 matches-least (gap m n) xs h = h .0
 
--- so it is with what the items cut
+-- so what the items cut is no longer than the sum of their spans
 cut-span : (items : List Item) (xs : List ℕ) → All Bounded items → Cut items xs → length xs ≤ sum-span items
 cut-span [] xs b e = omega (arith, ap length e)
 cut-span (i ∷ is) xs (b, bs) (front, rest, e, m, c) =
     omega (arith, ap length e ∙ length-append front rest, matches-span i front b m, cut-span is rest bs c)
 
+-- and no shorter than the sum of their least lengths
 cut-least : (items : List Item) (xs : List ℕ) → Cut items xs → sum-least items ≤ length xs
 cut-least [] xs e = omega arith
 cut-least (i ∷ is) xs (front, rest, e, m, c) =

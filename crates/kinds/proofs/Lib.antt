@@ -1,3 +1,4 @@
+pub mod Anchors
 pub mod Compiled
 pub mod Decisions
 pub mod Elements

@@ -374,13 +374,13 @@ chain-exactly (q ∷ qs) p break at until xs body row (fits, order) none gaps (o
 -- The limits.
 
 -- what keeps the least place finds none only if it had none and the test failed
-kept-none : (b : Bool) (o : Option ℕ) (n : ℕ) → cond b (least-with o n) o ≡ None → (o ≡ None) × (b ≡ false)
+pub kept-none : (b : Bool) (o : Option ℕ) (n : ℕ) → cond b (least-with o n) o ≡ None → (o ≡ None) × (b ≡ false)
 kept-none true None n e = grind arith
 kept-none true (Some m) n e = grind arith
 kept-none false o n e = (e, refl)
 
 -- where no fragment is beyond a limit, no item was wrong
-fragments-none : (fs : List Fragment) (number : ℕ) (o : Option ℕ) → fragment-place number o fs ≡ None → o ≡ None
+pub fragments-none : (fs : List Fragment) (number : ℕ) (o : Option ℕ) → fragment-place number o fs ≡ None → o ≡ None
 fragments-none [] number o e = e
 fragments-none (f ∷ fs) number o e = kept-none _ o (first-place (f .body)) (fragments-none fs (suc number) _ e) .0
 

@@ -4,7 +4,7 @@ use mathlib.Core.List.{List}
 use mathlib.Core.Logic.{⊎-elim}
 use mathlib.Core.Path.{_≡_, sym, ap, ap₂, _∙_}
 use Prim.Native.Nat.{ℕ, _+_, _-_, _*_, _/_, _%_, _^_, _≤_, _<_}
-use native.Mathlib.Nat.{lt-of-lt-of-le, lt-of-le-of-lt}
+use native.Mathlib.Nat.{lt-of-lt-of-le}
 use native.Mathlib.Omega.{arith}
 use lib.Count.{trailingZeros}
 use lib.ListN.{getD}
@@ -15,7 +15,7 @@ use Rattle.std.specs.Orderings.{When}
 use Rattle.std.specs.declared.option.Option.{Option}
 use Rattle.std.specs.declared.option.Option.the-variants.{Some, None}
 use Rattle.rows.specs.Rows.{bit, member, FirstFrom, NoneFrom}
-use Rattle.rows.proofs.Members.{member-bit, member-past}
+use Rattle.rows.proofs.Members.{member-bit}
 use Rattle.rows.proofs.Words.{bit-of-zero, bit-past, bit-shr, trailing-below, trailing-bit}
 
 -- the lowest bit from s on of a word, by the word shifted down by s

@@ -1,12 +1,12 @@
 -- The bits of a number: of 0, of sums of powers, of shifts, of masks, and of a bitwise or.
-use mathlib.Core.Bool.{Bool, true, false, cond, _&&_, _||_}
-use mathlib.Core.Path.{_≡_, refl, sym, ap, ap₂, subst, _∙_}
-use mathlib.Core.Logic.{_⊎_, inl, inr, ⊎-elim}
+use mathlib.Core.Bool.{true, false, cond, _&&_, _||_}
+use mathlib.Core.Path.{_≡_, refl, sym, ap, ap₂, _∙_}
+use mathlib.Core.Logic.{⊎-elim}
 use Prim.Native.Nat.{ℕ, zero, suc, _+_, _-_, _*_, _/_, _%_, _^_, _≤_, _<_}
-use native.Mathlib.Nat.{mod-lt, div-one, mod-eq-of-lt, div-eq-of-lt, zero-lt-suc, mul-assoc, zero-add, add-zero, lt-of-lt-of-le, zero-div, zero-mod, pow-suc}
+use native.Mathlib.Nat.{mod-lt, div-one, div-eq-of-lt, zero-lt-suc, mul-assoc, lt-of-lt-of-le, zero-div, pow-suc}
 use native.Mathlib.Numerals.{one-add}
 use native.Mathlib.Omega.{arith}
-use lib.Bits.{bitAnd, bitOr, or-shr, or-mod, and-shr, and-mod, and-mask, shifted-even}
+use lib.Bits.{bitAnd, bitOr, or-shr, or-mod, and-mask, shifted-even}
 use lib.Count.{trailingZeros, under}
 use lib.Dec.{eqb, leb, ltb}
 use lib.Pow.{pow-pos, pow-lt, pow-mono, pow-add, shr-shr, shl-shr, field, mod-mod-pow, high, ones-lt, ones-split}

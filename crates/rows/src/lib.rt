@@ -135,3 +135,48 @@ pub fn is_none(row: &Row) -> bool
 {
     first_from(row, 0).is_none()
 }
+
+#[cfg(test)]
+mod tests {
+    use super::*;
+    use std::test::*;
+
+    #[test]
+    fn holds_what_is_added() -> Result<(), Fail> {
+        for k in [0, 63, 64, 1023] {
+            let row = with(none(), k);
+            check(has(&row, k) && !is_none(&row))?;
+            check_eq(first_from(&row, 0), Some(k))?;
+            check_eq(first_from(&row, k), Some(k))?;
+            check_eq(first_from(&row, k + 1), None)?;
+        }
+        check(is_none(&with(none(), 1024)) && !has(&none(), 1024))
+    }
+
+    #[test]
+    fn shifts_across_words() -> Result<(), Fail> {
+        let row = with(with(none(), 0), 63);
+        check(shifted(row, 1) == with(with(none(), 1), 64))?;
+        check(shifted(row, 64) == with(with(none(), 64), 127))?;
+        check(shifted(row, 1023) == with(none(), 1023))?;
+        check(is_none(&shifted(row, 1024)))
+    }
+
+    #[test]
+    fn spreads_from_the_least_to_the_most() -> Result<(), Fail> {
+        let row = with(none(), 63);
+        check(spread(row, 0, 1) == with(row, 64))?;
+        check(spread(row, 1, 960) == up_to(spread(row, 1, 1024), 1023))?;
+        check(!has(&spread(row, 1, 959), 1023) && has(&spread(row, 1, 960), 1023))?;
+        check(is_none(&spread(row, 1, 0)) && is_none(&spread(row, 961, 1024)))
+    }
+
+    #[test]
+    fn cuts_after_the_last() -> Result<(), Fail> {
+        let row = spread(with(none(), 0), 0, 1023);
+        for last in [0, 63, 64, 1023] {
+            check(up_to(row, last) == spread(with(none(), 0), 0, last))?;
+        }
+        check(up_to(row, 1024) == row)
+    }
+}

@@ -1,8 +1,8 @@
 -- Words with no bit set are passed over, and the first other one has the member.
 use borrow.Author.Needs.{needs}
-use Prim.Native.Nat.{_*_, _/_, _%_, _^_, _<_}
+use Prim.Native.Nat.{_*_, _/_, _%_, _^_}
 use mathlib.Core.Logic.{⊎-elim}
-use mathlib.Core.Path.{_≡_, refl, sym, _∙_}
+use mathlib.Core.Path.{refl, sym, _∙_}
 use native.Mathlib.Nat.{div-one}
 use lib.ListN.{getD}
 use Rattle.std.proofs.shelf.Tests.{cases-lt}

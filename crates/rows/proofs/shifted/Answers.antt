@@ -1,17 +1,16 @@
 -- A word is written at each turn, and the words before it stay.
 use mathlib.Core.Bool.{Bool, _&&_}
 use mathlib.Core.List.{List}
-use mathlib.Core.Logic.{_≢_, ⊎-elim}
+use mathlib.Core.Logic.{⊎-elim}
 use mathlib.Core.Path.{_≡_, refl, sym, ap, ap₂, _∙_}
-use Prim.Native.Nat.{ℕ, _+_, _-_, _/_, _%_, _<_, _≤_}
+use Prim.Native.Nat.{ℕ, _+_, _/_, _%_, _<_}
 use native.Mathlib.Omega.{arith}
 use lib.Dec.{ltb}
 use lib.ListN.{getD, length, replicate, set}
 use Rattle.std.proofs.shelf.Lists.{getD-replicate, getD-set-other, getD-set-same, length-set}
-use Rattle.std.proofs.shelf.Tests.{cases-eq, cases-lt, le-ltb, lt-ltb}
-use Rattle.std.proofs.shelf.Ways.{tells}
-use Rattle.rows.specs.Rows.{bit, member, moved}
-use Rattle.rows.proofs.Members.{by-words, member-empty, member-past, moved-first, moved-short, moved-word}
+use Rattle.std.proofs.shelf.Tests.{cases-eq, le-ltb, lt-ltb}
+use Rattle.rows.specs.Rows.{bit, moved}
+use Rattle.rows.proofs.Members.{by-words, moved-first, moved-short, moved-word}
 use Rattle.rows.proofs.Words.{bit-of-zero}
 use Rattle.rows.proofs.shifted.Needs as need
 

@@ -18,13 +18,14 @@ use Rattle.rows.specs.Rows.{bit, member, FirstFrom, NoneFrom}
 use Rattle.rows.proofs.Members.{member-bit}
 use Rattle.rows.proofs.Words.{bit-of-zero, bit-past, bit-shr, trailing-below, trailing-bit}
 
--- the lowest bit from s on of a word, by the word shifted down by s
+-- b is the lowest bit from s on that is set in the word
 pub record Lowest (w s b : ℕ) : Type 0 where
   pub held : bit w b ≡ true
   pub inside : b < 64
   pub reached : s ≤ b
   pub before : (k : ℕ) → s ≤ k → k < b → bit w k ≡ false
 
+-- the trailing zeros of the word shifted down by s lead to that bit
 pub lowest : (w v s : ℕ) → w < 2 ^ 64 → v ≡ w / 2 ^ s → 0 < v → Lowest w s (s + trailingZeros 64 v)
 lowest w v s fits is p =
     record { held = here; inside = ⊎-elim (λ h. h) beyond (cases-lt (s + t) 64); reached = omega arith; before = below }

@@ -1,5 +1,5 @@
 -- Members of a row, by its words.
-use mathlib.Core.Bool.{Bool, false, cond, _&&_, _||_}
+use mathlib.Core.Bool.{Bool, true, false, cond, _&&_, _||_}
 use mathlib.Core.List.{List}
 use mathlib.Core.Logic.{⊎-elim}
 use mathlib.Core.Path.{_≡_, refl, sym, ap, ap₂, _∙_}
@@ -7,9 +7,9 @@ use Prim.Native.Nat.{ℕ, _+_, _-_, _*_, _/_, _%_, _^_, _≤_, _<_}
 use native.Mathlib.Omega.{arith}
 use lib.Bits.{bitAnd, bitOr}
 use lib.Dec.{eqb, leb, ltb}
-use lib.ListN.{getD, length, set}
-use Rattle.std.proofs.shelf.Lists.{getD-set-same, getD-set-other}
-use Rattle.std.proofs.shelf.Tests.{cases-eq, cases-lt, cases-order, le-leb, le-ltb, lt-leb, lt-ltb}
+use lib.ListN.{getD, length, replicate, set}
+use Rattle.std.proofs.shelf.Lists.{getD-replicate, getD-set-other, getD-set-same}
+use Rattle.std.proofs.shelf.Tests.{both-ways, cases-eq, cases-lt, cases-order, le-leb, le-ltb, lt-leb, lt-ltb}
 use Rattle.std.proofs.shelf.Ways.{tells}
 use Rattle.rows.specs.Rows.{bit, member, moved}
 use Rattle.rows.proofs.Words.{bit-cut, bit-of-zero, bit-or, bit-single}
@@ -30,38 +30,54 @@ pub by-words : (row : List ℕ) (f : ℕ → Bool) → ((j : ℕ) → j < 1024 �
 by-words row f below past j =
     ⊎-elim (λ h. member-bit row j h ∙ below j h) (λ h. member-past row j h ∙ sym (past j h)) (cases-lt j 1024)
 
--- one bit set in the word that k falls in
+-- the same, where `f` may say more from 1,024 on
+pub by-words-below : (row : List ℕ) (f : ℕ → Bool) → ((j : ℕ) → j < 1024 → bit (getD row (j / 64) 0) (j % 64) ≡ f j)
+    → (j : ℕ) → member row j ≡ (ltb j 1024 && f j)
+by-words-below row f below =
+    by-words row (λ j. ltb j 1024 && f j) (λ j h. below j h ∙ ap (λ t. t && f j) (sym (lt-ltb j 1024 h)))
+    (λ j h. ap (λ t. t && f j) (le-ltb j 1024 h))
+
+-- no bit of a row of 16 words that are 0 is set
+pub no-bits : (j : ℕ) → j < 1024 → bit (getD (replicate 16 0) (j / 64) 0) (j % 64) ≡ false
+no-bits j h = ap (λ w. bit w (j % 64)) (getD-replicate 16 (j / 64) 0 0 (omega arith)) ∙ bit-of-zero (j % 64)
+
+-- a bit of a row in which the word i has been written
+pub bit-after-set : (row : List ℕ) (i word j : ℕ) (x : Bool) → i < length row → (j / 64 ≡ i → bit word (j % 64) ≡ x)
+    → ((j / 64 ≡ i → ⊥) → bit (getD row (j / 64) 0) (j % 64) ≡ x) → bit (getD (set row i word) (j / 64) 0) (j % 64) ≡ x
+bit-after-set row i word j x h same other =
+    ⊎-elim
+    (λ e.
+    ap (λ k. bit (getD (set row i word) k 0) (j % 64)) e ∙ ap (λ w. bit w (j % 64)) (getD-set-same row i word 0 h) ∙ same e)
+    (λ ne. ap (λ w. bit w (j % 64)) (getD-set-other row i (j / 64) word 0 ne) ∙ other ne) (cases-eq (j / 64) i)
+
+-- one bit more in the word that k falls in
 pub member-with : (row : List ℕ) (k : ℕ) → length row ≡ 16 → k < 1024
     → (j : ℕ) → member (set row (k / 64) (bitOr (getD row (k / 64) 0) ((1 * 2 ^ (k % 64)) % 2 ^ 64))) j ≡ (member row j || (ltb k 1024 && eqb j k))
-member-with row k len h = by-words more (λ j. member row j || (ltb k 1024 && eqb j k)) below past
+member-with row k len h = by-words (set row (k / 64) (bitOr old one)) more below past
   where
-    word : ℕ
-    word = bitOr (getD row (k / 64) 0) ((1 * 2 ^ (k % 64)) % 2 ^ 64)
+    old : ℕ
+    old = getD row (k / 64) 0
 
-    more : List ℕ
-    more = set row (k / 64) word
+    one : ℕ
+    one = (1 * 2 ^ (k % 64)) % 2 ^ 64
 
-    past : (j : ℕ) → 1024 ≤ j → (member row j || (ltb k 1024 && eqb j k)) ≡ false
+    more : ℕ → Bool
+    more j = member row j || (ltb k 1024 && eqb j k)
+
+    past : (j : ℕ) → 1024 ≤ j → more j ≡ false
     past j l = let e = member-past row j l in grind (arith, tells)
 
-    below : (j : ℕ) → j < 1024 → bit (getD more (j / 64) 0) (j % 64) ≡ (member row j || (ltb k 1024 && eqb j k))
-    below j l = ⊎-elim (same j l) (other j l) (cases-eq (j / 64) (k / 64))
-      where
-        same : (j : ℕ) → j < 1024 → j / 64 ≡ k / 64 → bit (getD more (j / 64) 0) (j % 64) ≡ (member row j || (ltb k 1024 && eqb j k))
-        same j l e =
-            let at : k / 64 < length row = omega arith in
-            let s : k % 64 < 64 = omega arith in
-            let m = member-bit row j l in
-            let b = bit-single (k % 64) (j % 64) s in
-            ap (λ i. bit (getD more i 0) (j % 64)) e ∙ ap (λ w. bit w (j % 64)) (getD-set-same row (k / 64) word 0 at)
-            ∙ bit-or (getD row (k / 64) 0) ((1 * 2 ^ (k % 64)) % 2 ^ 64) (j % 64)
-            ∙ ap₂ _||_ (ap (λ i. bit (getD row i 0) (j % 64)) (sym e) ∙ sym m) (b ∙ grind (arith, tells))
+    same : (j : ℕ) → j < 1024 → j / 64 ≡ k / 64 → bit (bitOr old one) (j % 64) ≡ more j
+    same j l e =
+        let m : member row j ≡ bit old (j % 64) = member-bit row j l ∙ ap (λ i. bit (getD row i 0) (j % 64)) e in
+        let s = bit-single (k % 64) (j % 64) (omega arith) in
+        bit-or old one (j % 64) ∙ ap₂ _||_ (sym m) (s ∙ grind (arith, tells))
 
-        other : (j : ℕ) → j < 1024 → (j / 64 ≡ k / 64 → ⊥) → bit (getD more (j / 64) 0) (j % 64) ≡ (member row j || (ltb k 1024 && eqb j k))
-        other j l ne =
-            let m = member-bit row j l in
-            let d : j ≡ k → ⊥ = λ e. ne (ap (λ i. i / 64) e) in
-            ap (λ w. bit w (j % 64)) (getD-set-other row (k / 64) (j / 64) word 0 ne) ∙ sym m ∙ grind (arith, tells)
+    other : (j : ℕ) → j < 1024 → (j / 64 ≡ k / 64 → ⊥) → bit (getD row (j / 64) 0) (j % 64) ≡ more j
+    other j l ne = let d : j ≡ k → ⊥ = λ e. ne (ap (λ i. i / 64) e) in sym (member-bit row j l) ∙ grind (arith, tells)
+
+    below : (j : ℕ) → j < 1024 → bit (getD (set row (k / 64) (bitOr old one)) (j / 64) 0) (j % 64) ≡ more j
+    below j l = bit-after-set row (k / 64) (bitOr old one) j (more j) (omega arith) (same j l) (other j l)
 
 -- each word of a row is the bitwise or of two rows' words
 pub member-or : (a b row : List ℕ) → ((i : ℕ) → i < 16 → getD row i 0 ≡ bitOr (getD a i 0) (getD b i 0))
@@ -77,63 +93,43 @@ member-or a b row words = by-words row (λ j. member a j || member b j) below pa
     past j l = ap₂ _||_ (member-past a j l) (member-past b j l)
 
 -- a row whose words are all 0 has no member
-pub member-empty : (row : List ℕ) → ((i : ℕ) → i < 16 → getD row i 0 ≡ 0) → (j : ℕ) → member row j ≡ false
-member-empty row words =
-    by-words row (λ j. false) (λ j l. ap (λ w. bit w (j % 64)) (words (j / 64) (omega arith)) ∙ bit-of-zero (j % 64)) (λ j l. refl)
+pub member-empty : (j : ℕ) → member (replicate 16 0) j ≡ false
+member-empty = by-words (replicate 16 0) (λ j. false) no-bits (λ j l. refl)
 
--- the words past a row's first have the bits of two words of the row that is moved on
-pub moved-word : (row : List ℕ) (by j word : ℕ) → j < 1024 → by / 64 < j / 64
-    → ((b : ℕ) → bit word b ≡ (ltb b 64 && cond (ltb b (by % 64)) (bit (getD row (j / 64 - by / 64 - 1) 0) (64 - by % 64 + b)) (bit (getD row (j / 64 - by / 64) 0) (b - by % 64))))
+-- A word of a row moved on: `high` is the word that it comes from, and `low` the word below that, or 0 where there is none.
+pub moved-word : (row : List ℕ) (by j low high word : ℕ) → j < 1024 → by / 64 ≤ j / 64 → high ≡ getD row (j / 64 - by / 64) 0
+    → (by / 64 < j / 64 → low ≡ getD row (j / 64 - by / 64 - 1) 0) → (by / 64 ≡ j / 64 → low ≡ 0)
+    → ((b : ℕ) → bit word b ≡ (ltb b 64 && cond (ltb b (by % 64)) (bit low (64 - by % 64 + b)) (bit high (b - by % 64))))
     → bit word (j % 64) ≡ moved row by j
 unfolding moved
-moved-word row by j word h l bits =
-    let n = j - by in
-    let m = member-bit row n (omega arith) in
-    bits (j % 64) ∙ ⊎-elim (below m) (past m) (cases-lt (j % 64) (by % 64))
+moved-word row by j low high word h l top under none bits =
+    bits (j % 64) ∙ ⊎-elim (λ s. ⊎-elim (carried s) (λ e. nothing s (omega arith)) (cases-lt (by / 64) (j / 64))) own (cases-lt (j % 64) (by % 64))
   where
-    low : Bool
-    low = bit (getD row (j / 64 - by / 64 - 1) 0) (64 - by % 64 + j % 64)
-
-    top : Bool
-    top = bit (getD row (j / 64 - by / 64) 0) (j % 64 - by % 64)
-
     Same : Type 0
-    Same = (ltb (j % 64) 64 && cond (ltb (j % 64) (by % 64)) low top) ≡ (leb by j && member row (j - by))
+    Same =
+        (ltb (j % 64) 64 && cond (ltb (j % 64) (by % 64)) (bit low (64 - by % 64 + j % 64)) (bit high (j % 64 - by % 64)))
+        ≡ (leb by j && member row (j - by))
 
-    below : member row (j - by) ≡ bit (getD row ((j - by) / 64) 0) ((j - by) % 64) → j % 64 < by % 64 → Same
-    below m s =
+    -- the member at j - by, by its word and bit
+    from : (w b : ℕ) → by ≤ j → getD row ((j - by) / 64) 0 ≡ w → (j - by) % 64 ≡ b → member row (j - by) ≡ bit w b
+    from w b k e f = member-bit row (j - by) (omega arith) ∙ ap₂ bit e f
+
+    carried : j % 64 < by % 64 → by / 64 < j / 64 → Same
+    carried s k =
         let e : (j - by) / 64 ≡ j / 64 - by / 64 - 1 = omega arith in
-        let f : (j - by) % 64 ≡ 64 - by % 64 + j % 64 = omega arith in
-        let k : member row (j - by) ≡ low = m ∙ ap₂ (λ x y. bit (getD row x 0) y) e f in
+        let m = from low (64 - by % 64 + j % 64) (omega arith) (ap (λ i. getD row i 0) e ∙ sym (under k)) (omega arith) in
         grind (arith, tells)
 
-    past : member row (j - by) ≡ bit (getD row ((j - by) / 64) 0) ((j - by) % 64) → by % 64 ≤ j % 64 → Same
-    past m s =
+    nothing : j % 64 < by % 64 → by / 64 ≡ j / 64 → Same
+    nothing s k =
+        let z : bit low (64 - by % 64 + j % 64) ≡ false = ap (λ w. bit w (64 - by % 64 + j % 64)) (none k) ∙ bit-of-zero (64 - by % 64 + j % 64) in
+        let short : j < by = omega arith in
+        grind (arith, tells)
+
+    own : by % 64 ≤ j % 64 → Same
+    own s =
         let e : (j - by) / 64 ≡ j / 64 - by / 64 = omega arith in
-        let f : (j - by) % 64 ≡ j % 64 - by % 64 = omega arith in
-        let k : member row (j - by) ≡ top = m ∙ ap₂ (λ x y. bit (getD row x 0) y) e f in
-        grind (arith, tells)
-
--- the first word has the low bits of one word
-pub moved-first : (row : List ℕ) (by j word : ℕ) → j < 1024 → j / 64 ≡ by / 64
-    → ((b : ℕ) → bit word b ≡ (ltb b 64 && cond (ltb b (by % 64)) (bit 0 (64 - by % 64 + b)) (bit (getD row 0 0) (b - by % 64))))
-    → bit word (j % 64) ≡ moved row by j
-unfolding moved
-moved-first row by j word h l bits =
-    bits (j % 64) ∙ ⊎-elim below past (cases-lt (j % 64) (by % 64))
-  where
-    Same : Type 0
-    Same = (ltb (j % 64) 64 && cond (ltb (j % 64) (by % 64)) (bit 0 (64 - by % 64 + j % 64)) (bit (getD row 0 0) (j % 64 - by % 64))) ≡ (leb by j && member row (j - by))
-
-    below : j % 64 < by % 64 → Same
-    below s = let z = bit-of-zero (64 - by % 64 + j % 64) in let under : j < by = omega arith in grind (arith, tells)
-
-    past : by % 64 ≤ j % 64 → Same
-    past s =
-        let e : (j - by) / 64 ≡ 0 = omega arith in
-        let f : (j - by) % 64 ≡ j % 64 - by % 64 = omega arith in
-        let m = member-bit row (j - by) (omega arith) in
-        let k : member row (j - by) ≡ bit (getD row 0 0) (j % 64 - by % 64) = m ∙ ap₂ (λ x y. bit (getD row x 0) y) e f in
+        let m = from high (j % 64 - by % 64) (omega arith) (ap (λ i. getD row i 0) e ∙ sym top) (omega arith) in
         grind (arith, tells)
 
 -- nothing is moved to below the distance
@@ -170,3 +166,7 @@ pub member-all : (row : List ℕ) (last j : ℕ) → 1024 ≤ last → member ro
 member-all row last j h =
     ⊎-elim (λ l. ap (λ t. t && member row j) (sym (le-leb j last (omega arith)))) (λ l. let m = member-past row j l in grind (arith, tells))
     (cases-lt j 1024)
+
+-- a member is below 1,024
+pub member-below : (row : List ℕ) (k : ℕ) → member row k ≡ true → k < 1024
+member-below row k e = ⊎-elim (λ h. h) (λ h. absurd (both-ways (member row k) (member-past row k h) e)) (cases-lt k 1024)

@@ -1,4 +1,4 @@
--- The bits of a number: of 0, of sums of powers, of shifts, of masks, and of a bitwise or.
+-- The bits of a number: of 0, of 1, of a bitwise or, of shifts and of masks, and the lowest bit that is set.
 use mathlib.Core.Bool.{true, false, cond, _&&_, _||_}
 use mathlib.Core.Path.{_≡_, refl, sym, ap, ap₂, _∙_}
 use mathlib.Core.Logic.{⊎-elim}
@@ -24,6 +24,7 @@ pub bit-past : (w k : ℕ) → w < 2 ^ k → bit w k ≡ false
 unfolding bit
 bit-past w k h = rw (div-eq-of-lt h)
 
+-- a bitwise or of two digits
 digit-or : (x y : ℕ) → x < 2 → y < 2 → eqb (bitOr x y) 1 ≡ (eqb x 1 || eqb y 1)
 digit-or zero y hx hy = refl
 digit-or (suc zero) zero hx hy = refl

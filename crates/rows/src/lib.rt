@@ -141,6 +141,7 @@ mod tests {
     use super::*;
     use std::test::*;
 
+    // One member at each edge is found, and 1,024 is never one.
     #[test]
     fn holds_what_is_added() -> Result<(), Fail> {
         for k in [0, 63, 64, 1023] {
@@ -153,6 +154,7 @@ mod tests {
         check(is_none(&with(none(), 1024)) && !has(&none(), 1024))
     }
 
+    // Bits go on into the next word, and past 1,023 they are gone.
     #[test]
     fn shifts_across_words() -> Result<(), Fail> {
         let row = with(with(none(), 0), 63);
@@ -162,6 +164,7 @@ mod tests {
         check(is_none(&shifted(row, 1024)))
     }
 
+    // Both ends of the range of distances count.
     #[test]
     fn spreads_from_the_least_to_the_most() -> Result<(), Fail> {
         let row = with(none(), 63);
@@ -171,6 +174,7 @@ mod tests {
         check(is_none(&spread(row, 1, 0)) && is_none(&spread(row, 961, 1024)))
     }
 
+    // The last offset stays.
     #[test]
     fn cuts_after_the_last() -> Result<(), Fail> {
         let row = spread(with(none(), 0), 0, 1023);

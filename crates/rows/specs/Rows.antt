@@ -18,7 +18,7 @@ member row k = ltb k 1024 && bit (getD row (k / 64) 0) (k % 64)
 unfoldable pub moved : List ℕ → ℕ → ℕ → Bool
 moved row d j = leb d j && member row (j - d)
 
--- whether j is a member moved on by a distance that is at least the first number and at most the second
+-- whether j is a member of the row moved on by some distance from `least` to `most`
 unfoldable pub some-distance : List ℕ → ℕ → ℕ → ℕ → Bool
 some-distance row least zero j = leb least 0 && moved row 0 j
 some-distance row least (suc most) j = (leb least (suc most) && moved row (suc most) j) || some-distance row least most j

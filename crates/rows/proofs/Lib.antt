@@ -1,0 +1,4 @@
+pub mod Distances
+pub mod Firsts
+pub mod Members
+pub mod Words

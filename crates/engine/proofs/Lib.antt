@@ -1,4 +1,5 @@
 pub mod Classes
+pub mod Fits
 pub mod Gaps
 pub mod Growth
 pub mod Items

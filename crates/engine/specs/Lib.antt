@@ -1,3 +1,4 @@
+pub mod Codes
 pub mod Compiled
 pub mod Contexts
 pub mod Faults

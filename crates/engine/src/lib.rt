@@ -10,6 +10,7 @@ pub mod part;
 pub mod pattern;
 pub mod reader;
 pub mod run;
+pub mod scan;
 pub mod sequence;
 mod step;
 mod store;

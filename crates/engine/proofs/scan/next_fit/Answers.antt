@@ -5,11 +5,11 @@ use lib.ListN.{length}
 use Rattle.std.proofs.shelf.Lists.{length-map}
 use Rattle.kinds.specs.Search.{first-fit}
 use Rattle.engine.specs.Codes.{codes-of}
-use Rattle.engine.proofs.Fits.{code-at, codes-end, first-here, first-later, first-none, moves-on}
+use Rattle.engine.proofs.Fits.{code-at, code-past, first-here, first-later, first-none, moves-on}
 use Rattle.engine.proofs.scan.next_fit.Needs as need
 
 pub returns-then-width-len : need.returns-then-width-len
-returns-then-width-len g c _ =
+returns-then-width-len g c table =
     let xs = g .R·Reading .elements (c .args .reading .now) in
     let size : length (codes-of (g .Element·Kind .alphabet) xs) ≡ length xs = simp length-map in
     sym (first-none (c .args .anchor .now) _ (c .args .from) (omega arith))
@@ -20,17 +20,27 @@ returns-then-fits g c table =
 
 pub returns-in-Break-beyond : need.returns-in-Break-beyond
 returns-in-Break-beyond g c table =
+    let anchor = c .args .anchor .now in
     let xs = g .R·Reading .elements (c .args .reading .now) in
     let codes = codes-of (g .Element·Kind .alphabet) xs in
-    let end = codes-end (g .Element·Kind .alphabet) xs (c .loop-place .place + length (c .args .anchor .now)) (sym (c .at .ensures) ∙ c .in-Break-beyond .was tt) in
-    c .from-residual .ensures ∙ sym (first-later (c .args .anchor .now) codes (c .loop-place .place) (sym (c .if-fits .ensures tt)) ∙ first-none (c .args .anchor .now) codes (suc (c .loop-place .place)) (omega arith)) ∙ c .loop-place .inv table
+    let place = c .loop-place .place in
+    let past = code-past (g .Element·Kind .alphabet) xs (place + length anchor) (sym (c .at .ensures) ∙ c .in-Break-beyond .was tt) in
+    c .from-residual .ensures
+    ∙ sym (first-none anchor codes (suc place) (omega arith))
+    ∙ sym (first-later anchor codes place (sym (c .if-fits .ensures tt)))
+    ∙ c .loop-place .inv table
 
 pub loop-place-again : need.loop-place-again
 loop-place-again g c table =
+    let anchor = c .args .anchor .now in
     let xs = g .R·Reading .elements (c .args .reading .now) in
-    let code = code-at (g .Element·Kind .alphabet) xs (c .loop-place .place + length (c .args .anchor .now)) (c .in-Continue-beyond .beyond) (sym (c .at .ensures) ∙ c .in-Continue-beyond .was tt) in
-    let step = moves-on (c .args .shifts .now) (c .args .anchor .now) (codes-of (g .Element·Kind .alphabet) xs) (c .loop-place .place) (c .from .result) table (sym (c .if-fits .ensures tt)) (code .1 ∙ sym (c .code .ensures) ∙ sym (c .from .ensures)) in
-    ap (λ d. first-fit (c .args .anchor .now) (codes-of (g .Element·Kind .alphabet) xs) (c .loop-place .place + d)) (c .max .ensures) ∙ step ∙ c .loop-place .inv table
+    let codes = codes-of (g .Element·Kind .alphabet) xs in
+    let place = c .loop-place .place in
+    let code = code-at (g .Element·Kind .alphabet) xs (place + length anchor) (c .in-Continue-beyond .beyond) (sym (c .at .ensures) ∙ c .in-Continue-beyond .was tt) in
+    let beyond = code ∙ sym (c .code .ensures) ∙ sym (c .from .ensures) in
+    ap (λ d. first-fit anchor codes (place + d)) (c .max .ensures)
+    ∙ sym (moves-on anchor codes (c .args .shifts .now) place (c .from .result) table (sym (c .if-fits .ensures tt)) beyond)
+    ∙ c .loop-place .inv table
 
 pub returns : need.returns
 returns g c table =

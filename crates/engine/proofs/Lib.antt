@@ -3,6 +3,7 @@ pub mod Assembling
 pub mod Bodies
 pub mod Classes
 pub mod Cutting
+pub mod Fits
 pub mod Gaps
 pub mod Growth
 pub mod Items

@@ -125,8 +125,8 @@ module _ {E : Type 0} (a : Alphabet E) where
     brace-stops at is h s x from = class-steps Brace is s from x ∙ h from
 
     -- a literal
-    pub literal-reads : (pair : RefT (List ℕ)) (code : ℕ) → class-of e (getD t place 0) ≡ Pair → getD t (place + 1) 0 < 256 → Reads-literal a t place code → Reads-token a t e place (token.Literal pair code) (place + 2)
-    literal-reads pair code is byte h =
+    pub literal-reads : (pair : RefT (List ℕ)) (at code : ℕ) → class-of e (getD t place 0) ≡ Pair → getD t (place + 1) 0 < 256 → Reads-literal a t place code → Reads-token a t e place (token.Literal pair at code) (place + 2)
+    literal-reads pair at code is byte h =
         let first = getD t place 0 in
         let second = getD t (place + 1) 0 in
         let on : place + 1 + 1 ≡ place + 2 = omega arith in

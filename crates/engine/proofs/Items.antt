@@ -130,7 +130,7 @@ module _ {E : Type 0} (a : Alphabet E) where
 
     -- so a token does the same whatever the kind
     same-token : (s : State) (e : Expects) (tok : Token) → expected s ≡ Some e → with-token a s tok ≡ with-token nameless s tok
-    same-token s e (token.Literal pair code) h = same-code s code
+    same-token s e (token.Literal pair at code) h = same-code s code
     same-token s e token.Any h = refl
     same-token s e (token.Mark m) h = same-mark s e (character m) h (unpaired-mark m)
     same-token s e (token.Gap g) h = refl

@@ -62,9 +62,9 @@ character Except = 33
 character Colon = 58
 character CloseRange = 93
 
--- a literal holds the two characters at its place
+-- a literal holds the two characters at its place, and the place
 abbrev pub Part : List ℕ → ℕ → Token → Type 0
-Part t place (token.Literal pair code) = now pair ≡ take 2 (drop place t)
+Part t place (token.Literal pair at code) = (now pair ≡ take 2 (drop place t)) × (at ≡ place)
 Part t place token.Any = Unit {0}
 Part t place (token.Mark m) = Unit {0}
 Part t place (token.Gap g) = Unit {0}
@@ -72,7 +72,7 @@ Part t place (token.Gap g) = Unit {0}
 module _ {E : Type 0} (a : Alphabet E) where
   -- what a token does in a state
   abbrev pub with-token : State → Token → Next
-  with-token s (token.Literal pair code) = with-code a s code
+  with-token s (token.Literal pair at code) = with-code a s code
   with-token s token.Any = complete any
   with-token s (token.Mark m) = next a s (character m)
   with-token s (token.Gap g) = complete (gap (g .least) (g .most))

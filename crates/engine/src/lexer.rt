@@ -181,7 +181,8 @@ fn token_at<'t, K: Kind>(
         }
         Class::Pair => {
             let code = literal::<K>(text, place)?;
-            Ok((Token::Literal(&text[place..place + 2], code), place + 2))
+            let pair = &text[place..place + 2];
+            Ok((Token::Literal { pair, place, code }, place + 2))
         }
         Class::Misplaced => Err(place),
     }

@@ -1,9 +1,7 @@
 // The engine: it reads pattern texts, compiles them, and searches readings.
-mod context;
-mod step;
-mod store;
 pub mod cause;
 pub mod compile;
+mod context;
 pub mod fault;
 pub mod fragment;
 pub mod lexer;
@@ -15,5 +13,7 @@ pub mod reader;
 pub mod run;
 pub mod scan;
 pub mod sequence;
+mod step;
+mod store;
 pub mod text;
 pub mod token;

@@ -160,7 +160,7 @@ pub(crate) fn advance(pattern: &mut Pattern, context: Context, token: Token) -> 
     ensures { λ r. ⌜ Cases r (Steps-to (now (pattern .entry)) (now (pattern .exit)) (with-token nameless (state-in (now (pattern .entry)) context) (token .entry))) (λ f. f .cause ≡ Memory) ⌝ }
 {
     match token {
-        Token::Literal(_, code) => literal(pattern, context, code),
+        Token::Literal { code, .. } => literal(pattern, context, code),
         Token::Any => Ok(Step::Complete(Part::Any)),
         Token::Mark(mark) => punctuation(pattern, context, mark),
         Token::Gap(gap) => Ok(Step::Complete(Part::Gap(gap))),

@@ -19,10 +19,15 @@ pub struct Gap {
     pub most: Option<u16>,
 }
 
-// A token. A literal holds the part of the text that is its pair, and the code of the element that the pair names.
+// A token. A literal holds the part of the text that is its pair, the place where it stands, and the code of the element
+// that the pair names.
 #[derive(Clone, Copy)]
 pub enum Token<'t> {
-    Literal(&'t [u8], u16),
+    Literal {
+        pair: &'t [u8],
+        place: usize,
+        code: u16,
+    },
     Any,
     Mark(Punctuation),
     Gap(Gap),

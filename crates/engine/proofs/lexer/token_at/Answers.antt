@@ -36,8 +36,8 @@ returns-in-Break-code g c =
 pub returns-in-Continue-code : need.returns-in-Continue-code
 returns-in-Continue-code g c =
     let two : c .args .place + 2 - c .args .place ≡ 2 = omega arith in (
-      literal-reads (g .K·Kind .alphabet) (c .args .text .now) (c .args .place) (c .args .expects) (c .pre) _ _ (sym (c .in-Pair .ensures tt)) (c .typed .text (c .args .place + 1) .fits) (c .in-Continue-code .ensures tt),
-      ap (λ n. take n (drop (c .args .place) (c .args .text .now))) two,
+      literal-reads (g .K·Kind .alphabet) (c .args .text .now) (c .args .place) (c .args .expects) (c .pre) _ _ _ (sym (c .in-Pair .ensures tt)) (c .typed .text (c .args .place + 1) .fits) (c .in-Continue-code .ensures tt),
+      (ap (λ n. take n (drop (c .args .place) (c .args .text .now))) two, refl),
     )
 
 pub returns-in-Misplaced : need.returns-in-Misplaced

@@ -8,7 +8,7 @@ use crate::fragment::INDICES;
 use kinds::kind::Kind;
 use kinds::reading::Reading;
 
-// Whether an anchor stands at a place of a reading.
+// Whether an anchor stands at a place of a reading, or at its end.
 fn fits<R: Reading>(reading: &R, anchor: &[u16], place: u32) -> bool
     requires { ⌜ place ≤ length (elements (now reading)) ⌝ }
     ensures { λ r. ⌜ r ≡ stands-at (now (anchor .entry)) (codes-of (Element·Kind .alphabet) (elements (now (reading .entry)))) place ⌝ }
@@ -26,8 +26,8 @@ fn fits<R: Reading>(reading: &R, anchor: &[u16], place: u32) -> bool
     true
 }
 
-// The first place, from one on, where an anchor stands, or none. The window, as long as the anchor, moves on by the shift of
-// the element beyond it. A table that is not the anchor's may have shifts of 0, and the window moves on by 1 there.
+// The first place, from one on, where an anchor stands, or none. A window of the anchor's length moves on by the shift of the
+// element beyond it, and by 1 where the table has a shift of 0, which no anchor's table has.
 pub fn next_fit<R: Reading>(
     reading: &R,
     anchor: &[u16],

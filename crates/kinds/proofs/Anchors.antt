@@ -405,7 +405,7 @@ spans-at-least items xs s e h = omega (arith, length-stretch xs s e (h .inside),
 -- The items of a fragment.
 
 -- a thing is no gap
-thing-bounded : (i : Item) → is-gap i ≡ false → Bounded i
+pub thing-bounded : (i : Item) → is-gap i ≡ false → Bounded i
 thing-bounded (literal c) n = refl
 thing-bounded any n = refl
 thing-bounded (group runs) n = refl

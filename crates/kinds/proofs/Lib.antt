@@ -1,4 +1,5 @@
 pub mod Anchors
+pub mod Backs
 pub mod Compiled
 pub mod Decisions
 pub mod Elements

@@ -1,16 +1,16 @@
 -- The search by fragments: what it is to find, and the theorem that it decides as the rule does.
 use mathlib.Core.Path.{_≡_}
 use mathlib.Core.Bool.{Bool, true, false, _&&_}
-use mathlib.Core.List.{List, [], _∷_}
+use mathlib.Core.List.{List, [], _∷_, reverse}
 use Prim.Native.Nat.{ℕ, zero, suc, _+_, _-_}
 use lib.Dec.{leb}
 use lib.ListN.{length, take, drop}
 use Rattle.std.specs.declared.option.Option.{Option}
 use Rattle.std.specs.declared.option.Option.the-variants.{Some, None}
-use Rattle.kinds.specs.Fragments.{Fragment, fragments, bodies, limit-place}
+use Rattle.kinds.specs.Fragments.{Fragment, fragments, bodies, limit-place, oriented}
 use Rattle.kinds.specs.Grammar.{Placed, Ordered, start}
 use Rattle.kinds.specs.Patterns.{Item, at-most, cuts, hits, same}
-use Rattle.kinds.specs.declared.pattern.Reference.the-variants.{Front, Anywhere}
+use Rattle.kinds.specs.declared.pattern.Reference.the-variants.{Front, Back, Anywhere}
 
 -- the elements from one place to before another
 abbrev pub stretch : List ℕ → ℕ → ℕ → List ℕ
@@ -46,6 +46,13 @@ Found-exactly =
     → Ordered start qs → limit-place qs ≡ None
     → (found (fragments lo qs) 0 (Some hi) xs ≡ hits Front lo hi (bodies qs) xs)
     × (found (fragments 0 qs) 0 None xs ≡ hits Anywhere 0 0 (bodies qs) xs)
+
+-- The theorem: searching the mirrored fragments in the reversed reading decides as the rule does from the back.
+abbrev pub Found-from-back : Type 0
+Found-from-back =
+    (qs : List Placed) (lo hi : ℕ) (xs : List ℕ)
+    → Ordered start qs → limit-place qs ≡ None
+    → found (fragments lo (oriented Back qs)) 0 (Some hi) (reverse xs) ≡ hits Back lo hi (bodies qs) xs
 
 -- The anchor.
 

@@ -10,3 +10,4 @@ pub mod Stored
 pub mod Tallies
 pub mod Tokens
 pub mod Turned
+pub mod Views

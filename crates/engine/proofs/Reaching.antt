@@ -1,7 +1,7 @@
 -- How rows of offsets follow from rows: one step of an item.
 use mathlib.Core.Path.{_≡_, refl, sym, ap, subst, _∙_}
 use mathlib.Core.Bool.{Bool, true, false, not, _&&_, _||_}
-use mathlib.Core.List.{List, [], _∷_}
+use mathlib.Core.List.{List, [], _∷_, _++_, append-nil}
 use mathlib.Core.Logic.{_⊎_, inl, inr, ⊎-elim}
 use Prim.Native.Nat.{ℕ, zero, suc, _+_, _-_, _≤_, _<_}
 use native.Mathlib.Omega.{arith}
@@ -10,10 +10,13 @@ use lib.ListN.{length}
 use Rattle.std.specs.Orderings.{Decides}
 use Rattle.std.specs.declared.option.Option.{Option}
 use Rattle.std.specs.declared.option.Option.the-variants.{Some, None}
-use Rattle.std.proofs.shelf.Tests.{and-from, and-parts, both-ways, cases-eq, cases-lt, le-leb, leb-true, lt-ltb, ltb-true, eq-eqb, eqb-true, or-cases, or-left, or-right}
-use Rattle.kinds.specs.Patterns.{Item, any, gap, range, matches, between, at-most}
+use Rattle.std.proofs.shelf.Ways.{tells}
+use Rattle.std.proofs.shelf.Tests.{and-from, and-parts, and-right, both-ways, cases-eq, cases-lt, le-leb, leb-true, lt-ltb, ltb-true, eq-eqb, eqb-true, or-cases, or-left, or-right}
+use Rattle.kinds.specs.declared.pattern.Direction.the-variants.{FirstOn}
+use Rattle.kinds.specs.Patterns.{up-to, Item, any, group, gap, range, other, matches, among, between, same, at-most}
 use Rattle.kinds.specs.declared.pattern.Direction.{Direction}
 use Rattle.kinds.specs.Search.{stretch}
+use Rattle.kinds.proofs.Decisions.{same-decides}
 use Rattle.kinds.proofs.Searches.{length-stretch}
 use Rattle.rows.specs.Rows.{member, moved, some-distance, FirstFrom, NoneFrom}
 use Rattle.rows.proofs.Distances.{reached, from-reached, one-distance}
@@ -176,3 +179,60 @@ module _ (item : Item) (row xs on : List ℕ) (n start k : ℕ) (fixed : (ys : L
         (subst (λ m. matches item (stretch xs k m) ≡ true) here (subst (λ o. matches item (stretch xs o j) ≡ true) e (h .0 .matched))))))
         (origins j (h .0) (h .1)),
   )
+
+-- items that match the same lists lead to the same places
+pub alike : (i k : Item) (row xs on : List ℕ) → ((ys : List ℕ) → matches i ys ≡ matches k ys) → Stepped i row xs on → Stepped k row xs on
+alike i k row xs on e h j = (
+  λ t.
+      let led = h j .0 t in
+      record { origin = led .origin; held = led .held; ordered = led .ordered; small = led .small; inside = led .inside; matched = sym (e (stretch xs (led .origin) j)) ∙ led .matched },
+  λ led.
+      h j .1
+      (record { origin = led .origin; held = led .held; ordered = led .ordered; small = led .small; inside = led .inside; matched = e (stretch xs (led .origin) j) ∙ led .matched }),
+)
+
+-- of lists of one length, only the same one is at most and at least another
+both-up-to : (xs ys : List ℕ) → (eqb (length xs) (length ys) && (up-to ys xs && up-to xs ys)) ≡ same xs ys
+both-up-to [] [] = refl
+both-up-to [] (y ∷ ys) = and-right _ false refl
+both-up-to (x ∷ xs) [] = and-right _ false refl
+both-up-to (x ∷ xs) (y ∷ ys) = let rest = both-up-to xs ys in grind (arith, tells)
+
+-- a range from a run to itself is the run
+pub alone : (run ys : List ℕ) → matches (range FirstOn true run run) ys ≡ same ys run
+alone run ys = both-up-to ys run
+
+-- and leaves out all others of its length
+pub others : (run ys : List ℕ) → matches (range FirstOn false run run) ys ≡ matches (other run) ys
+others run ys = let e = both-up-to ys run in grind (arith, tells)
+
+-- one run more
+among-more : (runs : List (List ℕ)) (run ys : List ℕ) → among ys (runs ++ run ∷ []) ≡ (among ys runs || same ys run)
+among-more [] run ys = grind (arith, tells)
+among-more (r ∷ runs) run ys = let e = among-more runs run ys in grind (arith, tells)
+
+-- no run leads anywhere
+pub group-none : (row xs on : List ℕ) → ((j : ℕ) → member on j ≡ false) → Stepped (group []) row xs on
+group-none row xs on none j = (λ e. absurd (both-ways (member on j) (none j) e), λ led. absurd (both-ways false refl (led .matched)))
+
+-- a group with one run more leads where it did and where the run does
+pub group-more : (runs : List (List ℕ)) (run row xs on by all : List ℕ) → Stepped (group runs) row xs on
+    → Stepped (range FirstOn true run run) row xs by → ((j : ℕ) → member all j ≡ (member on j || member by j))
+    → Stepped (group (runs ++ run ∷ [])) row xs all
+group-more runs run row xs on by all old new is j = (
+  λ e.
+      ⊎-elim
+      (λ t.
+      let led = old j .0 t in
+      record { origin = led .origin; held = led .held; ordered = led .ordered; small = led .small; inside = led .inside; matched = among-more runs run (stretch xs (led .origin) j) ∙ or-left (among (stretch xs (led .origin) j) runs) (same (stretch xs (led .origin) j) run) (led .matched) })
+      (λ t.
+      let led = new j .0 t in
+      record { origin = led .origin; held = led .held; ordered = led .ordered; small = led .small; inside = led .inside; matched = among-more runs run (stretch xs (led .origin) j) ∙ or-right (among (stretch xs (led .origin) j) runs) (same (stretch xs (led .origin) j) run) (sym (alone run (stretch xs (led .origin) j)) ∙ led .matched) })
+      (or-cases (member on j) (member by j) (sym (is j) ∙ e)),
+  λ led.
+      is j
+      ∙ ⊎-elim
+      (λ t. or-left (member on j) (member by j) (old j .1 (record { origin = led .origin; held = led .held; ordered = led .ordered; small = led .small; inside = led .inside; matched = t })))
+      (λ t. or-right (member on j) (member by j) (new j .1 (record { origin = led .origin; held = led .held; ordered = led .ordered; small = led .small; inside = led .inside; matched = alone run (stretch xs (led .origin) j) ∙ t })))
+      (or-cases (among (stretch xs (led .origin) j) runs) (same (stretch xs (led .origin) j) run) (sym (among-more runs run (stretch xs (led .origin) j)) ∙ led .matched)),
+)

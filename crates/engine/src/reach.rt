@@ -1,13 +1,19 @@
 // How far items reach over what is seen of a reading, as rows of offsets.
 ghost use mathlib.Core.List.{List, map};
-ghost use mathlib.Core.Bool.{_&&_};
+ghost use mathlib.Core.Bool.{true, _&&_};
 ghost use mathlib.Core.Path.{_≡_};
 ghost use Prim.Native.Nat.{ℕ, _+_, _≤_, _<_};
 ghost use lib.Dec.{leb};
 ghost use lib.ListN.{length};
+ghost use Rattle.engine.specs.Stored.{item-of, part-within, run-codes, runs-within};
 ghost use Rattle.engine.specs.Views.{order, position as compared-after, seen, Stepped};
-ghost use Rattle.kinds.specs.Patterns.{any, between, compared, gap as spaced, matches, range};
+ghost use Rattle.kinds.specs.Patterns.{any, between, compared, gap as spaced, group, matches, range};
 ghost use Rattle.kinds.specs.Search.{stretch};
+ghost use Rattle.std.specs.Of.Vec.{vec-items};
+use crate::limits::codes_of;
+use crate::part::Part;
+use crate::pattern::Pattern;
+use crate::run::Run;
 use crate::token::Gap;
 use crate::view::View;
 use kinds::pattern::Direction;
@@ -17,6 +23,7 @@ use rows::first_from;
 use rows::none;
 use rows::shifted;
 use rows::spread;
+use rows::union;
 use rows::up_to;
 use rows::with;
 use std::cmp::Ordering;
@@ -133,4 +140,56 @@ fn behind_range<R: Reading>(
         from = at + 1;
     }
     on
+}
+
+// The row behind one of some runs.
+fn behind_group<R: Reading>(pattern: &Pattern, runs: &[Run], row: Row, view: &View<R>) -> Row
+    requires { ⌜ runs-within (vec-items (now pattern .codes)) (now runs) ≡ true ⌝ }
+    ensures { λ r. ⌜ Stepped (group (map (run-codes (vec-items (now (pattern .entry) .codes))) (now (runs .entry)))) row (seen (map (Element·Kind .alphabet .code) (R·Reading .elements (now (now (view .entry) .reading)))) (now (view .entry) .base) (now (view .entry) .back)) r ⌝ }
+{
+    let mut all = none();
+    for run in runs {
+        let codes = codes_of(pattern, *run);
+        let more = union(
+            all,
+            behind_range(Direction::FirstOn, true, codes, codes, row, view),
+        );
+        all = more;
+    }
+    all
+}
+
+// The row behind a part.
+fn step<R: Reading>(pattern: &Pattern, part: Part, row: Row, view: &View<R>) -> Row
+    requires { ⌜ part-within (vec-items (now pattern .codes)) (vec-items (now pattern .runs)) part ≡ true ⌝ }
+    ensures { λ r. ⌜ Stepped (item-of (vec-items (now (pattern .entry) .codes)) (vec-items (now (pattern .entry) .runs)) part) row (seen (map (Element·Kind .alphabet .code) (R·Reading .elements (now (now (view .entry) .reading)))) (now (view .entry) .base) (now (view .entry) .back)) r ⌝ }
+{
+    match part {
+        Part::Literal(code) => behind_range(Direction::FirstOn, true, &[code], &[code], row, view),
+        Part::Any => behind_any(row, view.len()),
+        Part::Group { first, count } => behind_group(
+            pattern,
+            &pattern.runs.as_slice()[first..first + count],
+            row,
+            view,
+        ),
+        Part::Range {
+            direction,
+            inside,
+            low,
+            high,
+        } => behind_range(
+            direction,
+            inside,
+            codes_of(pattern, low),
+            codes_of(pattern, high),
+            row,
+            view,
+        ),
+        Part::Other(run) => {
+            let codes = codes_of(pattern, run);
+            behind_range(Direction::FirstOn, false, codes, codes, row, view)
+        }
+        Part::Gap(gap) => behind_gap(gap, row, view.len()),
+    }
 }

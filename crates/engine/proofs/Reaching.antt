@@ -1,7 +1,7 @@
 -- How rows of offsets follow from rows: one step of an item.
 use mathlib.Core.Path.{_≡_, refl, sym, ap, subst, _∙_}
 use mathlib.Core.Bool.{Bool, true, false, not, _&&_, _||_}
-use mathlib.Core.List.{List, [], _∷_, _++_, append-nil}
+use mathlib.Core.List.{List, [], _∷_, _++_, append-nil, append-assoc}
 use mathlib.Core.Logic.{_⊎_, inl, inr, ⊎-elim}
 use Prim.Native.Nat.{ℕ, zero, suc, _+_, _-_, _≤_, _<_}
 use native.Mathlib.Omega.{arith}
@@ -10,17 +10,22 @@ use lib.ListN.{length}
 use Rattle.std.specs.Orderings.{Decides}
 use Rattle.std.specs.declared.option.Option.{Option}
 use Rattle.std.specs.declared.option.Option.the-variants.{Some, None}
-use Rattle.std.proofs.shelf.Ways.{tells}
+use Rattle.std.proofs.shelf.Ways.{tells, decides-and, decides-like, decides-ltb, same-from-decides}
 use Rattle.std.proofs.shelf.Tests.{and-from, and-parts, and-right, both-ways, cases-eq, cases-lt, le-leb, leb-true, lt-ltb, ltb-true, eq-eqb, eqb-true, or-cases, or-left, or-right}
 use Rattle.kinds.specs.declared.pattern.Direction.the-variants.{FirstOn}
 use Rattle.kinds.specs.Patterns.{up-to, Item, any, group, gap, range, other, matches, among, between, same, at-most}
 use Rattle.kinds.specs.declared.pattern.Direction.{Direction}
-use Rattle.kinds.specs.Search.{stretch}
+use Rattle.kinds.specs.Search.{stretch, reaches}
+use Rattle.kinds.proofs.Anchors.{reaches-none, reaches-more}
 use Rattle.kinds.proofs.Decisions.{same-decides}
 use Rattle.kinds.proofs.Searches.{length-stretch}
 use Rattle.rows.specs.Rows.{member, moved, some-distance, FirstFrom, NoneFrom}
 use Rattle.rows.proofs.Distances.{reached, from-reached, one-distance}
+use Rattle.kinds.specs.Fragments.{bodies}
+use Rattle.engine.specs.Stored.{item-of, items}
 use Rattle.engine.specs.Views.{Led, Stepped}
+use Rattle.engine.specs.declared.part.PlacedPart.{PlacedPart}
+use Rattle.engine.specs.declared.run.Run.{Run}
 
 -- a greatest length, where a gap without one goes to the last offset
 abbrev pub Furthest : Option ℕ → ℕ → Type 0
@@ -236,3 +241,51 @@ group-more runs run row xs on by all old new is j = (
       (λ t. or-right (member on j) (member by j) (new j .1 (record { origin = led .origin; held = led .held; ordered = led .ordered; small = led .small; inside = led .inside; matched = alone run (stretch xs (led .origin) j) ∙ t })))
       (or-cases (among (stretch xs (led .origin) j) runs) (same (stretch xs (led .origin) j) run) (sym (among-more runs run (stretch xs (led .origin) j)) ∙ led .matched)),
 )
+
+-- Going through the items.
+
+-- the members of a row are the offsets that items reach
+abbrev pub Row-of : List Item → List ℕ → List ℕ → Type 0
+Row-of items xs row = (j : ℕ) → member row j ≡ (ltb j 1024 && reaches items xs j)
+
+-- no items reach the start alone
+pub row-none : (xs none row : List ℕ) → ((j : ℕ) → member none j ≡ false)
+    → ((j : ℕ) → member row j ≡ (member none j || (ltb 0 1024 && eqb j 0))) → Row-of [] xs row
+row-none xs none row empty is j =
+    same-from-decides (member row j) (ltb j 1024 && reaches [] xs j)
+    (λ e. ⊎-elim (λ t. absurd (both-ways (member none j) (empty j) t)) (λ t. eqb-true j 0 t) (or-cases (member none j) (eqb j 0) (sym (is j) ∙ e)), λ e. is j ∙ or-right (member none j) (eqb j 0) (eq-eqb j 0 e))
+    (λ e. reaches-none xs j .0 (and-parts (ltb j 1024) (reaches [] xs j) e .1), λ e. and-from (ltb j 1024) (reaches [] xs j) (lt-ltb j 1024 (omega arith)) (reaches-none xs j .1 e))
+
+-- one item more
+pub row-more : (is : List Item) (i : Item) (xs row on : List ℕ) → Row-of is xs row → Stepped i row xs on → Row-of (is ++ i ∷ []) xs on
+row-more is i xs row on old step j =
+    same-from-decides (member on j) (ltb j 1024 && reaches (is ++ i ∷ []) xs j) (step j) (
+      λ e.
+          let parts = and-parts (ltb j 1024) (reaches (is ++ i ∷ []) xs j) e in
+          let small = ltb-true j 1024 (parts .0) in
+          let by = reaches-more is i xs j .0 (parts .1) in
+          record {
+            origin = by .0;
+            held = old (by .0) ∙ and-from (ltb (by .0) 1024) (reaches is xs (by .0)) (lt-ltb (by .0) 1024 (omega (arith, by .1))) (by .2);
+            ordered = by .1;
+            small = small;
+            inside = by .3;
+            matched = by .4;
+          },
+      λ led.
+          and-from (ltb j 1024) (reaches (is ++ i ∷ []) xs j) (lt-ltb j 1024 (led .small))
+          (reaches-more is i xs j .1 (led .origin, led .ordered, and-parts (ltb (led .origin) 1024) (reaches is xs (led .origin)) (sym (old (led .origin)) ∙ led .held) .1, led .inside, led .matched)),
+    )
+
+-- from an empty row nothing more is reached
+pub row-stops : (is js : List Item) (xs row : List ℕ) → Row-of is xs row → ((j : ℕ) → member row j ≡ false) → Row-of (is ++ js) xs row
+row-stops is [] xs row old none = subst (λ l. Row-of l xs row) (sym (append-nil is)) old
+row-stops is (i ∷ js) xs row old none =
+    let stays : Stepped i row xs row = λ j. (λ e. absurd (both-ways (member row j) (none j) e), λ led. absurd (both-ways (member row (led .origin)) (none (led .origin)) (led .held))) in
+    subst (λ l. Row-of l xs row) (append-assoc is (i ∷ []) js) (row-stops (is ++ i ∷ []) js xs row (row-more is i xs row row old stays) none)
+
+-- the items of parts that follow each other
+pub bodies-append : (codes : List ℕ) (runs : List Run) (ps qs : List PlacedPart)
+    → bodies (items codes runs (ps ++ qs)) ≡ bodies (items codes runs ps) ++ bodies (items codes runs qs)
+bodies-append codes runs [] qs = refl
+bodies-append codes runs (p ∷ ps) qs = ap (λ is. item-of codes runs (p .part) ∷ is) (bodies-append codes runs ps qs)

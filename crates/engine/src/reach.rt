@@ -2,14 +2,16 @@
 ghost use mathlib.Core.List.{List, map};
 ghost use mathlib.Core.Bool.{true, _&&_};
 ghost use mathlib.Core.Path.{_≡_};
-ghost use Prim.Native.Nat.{ℕ, _+_, _≤_, _<_};
-ghost use lib.Dec.{leb};
-ghost use lib.ListN.{length};
-ghost use Rattle.engine.specs.Stored.{item-of, part-within, run-codes, runs-within};
+ghost use Prim.Native.Nat.{ℕ, _+_, _-_, _≤_, _<_};
+ghost use lib.Dec.{leb, ltb};
+ghost use lib.ListN.{drop, length, take};
+ghost use Rattle.engine.specs.Stored.{item-of, items, part-within, run-codes, runs-within};
 ghost use Rattle.engine.specs.Views.{order, position as compared-after, seen, Stepped};
+ghost use Rattle.kinds.specs.Fragments.{bodies};
 ghost use Rattle.kinds.specs.Patterns.{any, between, compared, gap as spaced, group, matches, range};
-ghost use Rattle.kinds.specs.Search.{stretch};
-ghost use Rattle.std.specs.Of.Vec.{vec-items};
+ghost use Rattle.kinds.specs.Search.{reaches, stretch};
+ghost use Rattle.rows.specs.Rows.{member};
+ghost use Rattle.std.specs.Of.Vec.{vec-items, vec-len};
 use crate::limits::codes_of;
 use crate::part::Part;
 use crate::pattern::Pattern;
@@ -20,6 +22,7 @@ use kinds::pattern::Direction;
 use kinds::reading::Reading;
 use rows::Row;
 use rows::first_from;
+use rows::is_none;
 use rows::none;
 use rows::shifted;
 use rows::spread;
@@ -192,4 +195,21 @@ fn step<R: Reading>(pattern: &Pattern, part: Part, row: Row, view: &View<R>) -> 
         }
         Part::Gap(gap) => behind_gap(gap, row, view.len()),
     }
+}
+
+// The offsets that the parts from `from` to before `to` reach.
+pub(crate) fn reach<R: Reading>(pattern: &Pattern, from: usize, to: usize, view: &View<R>) -> Row
+    requires ordered { ⌜ from ≤ to ⌝ }
+    requires inside { ⌜ to ≤ vec-len (now pattern .parts) ⌝ }
+    ensures { λ r. ⌜ ((j : ℕ) → member r j ≡ (ltb j 1024 && reaches (bodies (items (vec-items (now (pattern .entry) .codes)) (vec-items (now (pattern .entry) .runs)) (take (to - from) (drop from (vec-items (now (pattern .entry) .parts)))))) (seen (map (Element·Kind .alphabet .code) (R·Reading .elements (now (now (view .entry) .reading)))) (now (view .entry) .base) (now (view .entry) .back)) j)) ⌝ }
+{
+    let mut row = with(none(), 0);
+    for placed in &pattern.parts.as_slice()[from..to] {
+        if is_none(&row) {
+            return row;
+        }
+        let next = step(pattern, placed.part, row, view);
+        row = next;
+    }
+    row
 }

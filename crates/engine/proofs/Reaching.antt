@@ -3,21 +3,20 @@ use mathlib.Core.Path.{_≡_, refl, sym, ap, subst, _∙_}
 use mathlib.Core.Bool.{Bool, true, false, not, _&&_, _||_}
 use mathlib.Core.List.{List, [], _∷_, _++_, append-nil, append-assoc}
 use mathlib.Core.Logic.{_⊎_, inl, inr, ⊎-elim}
-use Prim.Native.Nat.{ℕ, zero, suc, _+_, _-_, _≤_, _<_}
+use Prim.Native.Nat.{ℕ, _+_, _-_, _≤_, _<_}
 use native.Mathlib.Omega.{arith}
 use lib.Dec.{eqb, leb, ltb}
 use lib.ListN.{length}
 use Rattle.std.specs.Orderings.{Decides}
 use Rattle.std.specs.declared.option.Option.{Option}
 use Rattle.std.specs.declared.option.Option.the-variants.{Some, None}
-use Rattle.std.proofs.shelf.Ways.{tells, decides-and, decides-like, decides-ltb, same-from-decides}
+use Rattle.std.proofs.shelf.Ways.{tells, same-from-decides}
 use Rattle.std.proofs.shelf.Tests.{and-from, and-parts, and-right, both-ways, cases-eq, cases-lt, le-leb, leb-true, lt-ltb, ltb-true, eq-eqb, eqb-true, or-cases, or-left, or-right}
 use Rattle.kinds.specs.declared.pattern.Direction.the-variants.{FirstOn}
 use Rattle.kinds.specs.Patterns.{up-to, Item, any, group, gap, range, other, matches, among, between, same, at-most}
 use Rattle.kinds.specs.declared.pattern.Direction.{Direction}
 use Rattle.kinds.specs.Search.{stretch, reaches}
 use Rattle.kinds.proofs.Anchors.{reaches-none, reaches-more}
-use Rattle.kinds.proofs.Decisions.{same-decides}
 use Rattle.kinds.proofs.Searches.{length-stretch}
 use Rattle.rows.specs.Rows.{member, moved, some-distance, FirstFrom, NoneFrom}
 use Rattle.rows.proofs.Distances.{reached, from-reached, one-distance}

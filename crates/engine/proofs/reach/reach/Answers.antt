@@ -31,7 +31,6 @@ returns-then-is-none g c =
 
 pub step-next-requires : need.step-next-requires
 step-next-requires g c κs =
-    let all = seen (map (g .Element·Kind .alphabet .code) (g .R·Reading .elements (c .args .view .now .reading .now))) (c .args .view .now .base) (c .args .view .now .back) in
     let codes = vec-items (c .args .pattern .now .codes) in
     let runs = vec-items (c .args .pattern .now .runs) in
     let ps = take (c .args .to - c .args .from) (drop (c .args .from) (vec-items (c .args .pattern .now .parts))) in

@@ -42,18 +42,24 @@ shortest-is codes r (s ∷ rs) h =
     ∙ sym (least-len-min (r .len) (s .len) rs)
 
 -- the runs from a place on lie within the codes
-runs-drop-within : (codes : List ℕ) (n : ℕ) (rs : List Run) → runs-within codes rs ≡ true → runs-within codes (drop n rs) ≡ true
+pub runs-drop-within : (codes : List ℕ) (n : ℕ) (rs : List Run) → runs-within codes rs ≡ true → runs-within codes (drop n rs) ≡ true
 runs-drop-within codes zero rs h = h
 runs-drop-within codes (suc n) [] h = h
 runs-drop-within codes (suc n) (r ∷ rs) h = runs-drop-within codes n rs (and-parts (run-within codes r) (runs-within codes rs) h .1)
 
 -- the first of some runs lie within the codes
-runs-take-within : (codes : List ℕ) (n : ℕ) (rs : List Run) → runs-within codes rs ≡ true → runs-within codes (take n rs) ≡ true
+pub runs-take-within : (codes : List ℕ) (n : ℕ) (rs : List Run) → runs-within codes rs ≡ true → runs-within codes (take n rs) ≡ true
 runs-take-within codes zero rs h = refl
 runs-take-within codes (suc n) [] h = h
 runs-take-within codes (suc n) (r ∷ rs) h =
     let parts = and-parts (run-within codes r) (runs-within codes rs) h in
     and-from (run-within codes r) (runs-within codes (take n rs)) (parts .0) (runs-take-within codes n rs (parts .1))
+
+-- one of runs within the codes lies within them
+pub run-at-within : (codes : List ℕ) (rs : List Run) (i : ℕ) (d : Run) → runs-within codes rs ≡ true → i < length rs → run-within codes (getD rs i d) ≡ true
+run-at-within codes [] i d h l = absurd (omega arith)
+run-at-within codes (r ∷ rs) zero d h l = and-parts (run-within codes r) (runs-within codes rs) h .0
+run-at-within codes (r ∷ rs) (suc i) d h (suc-le-suc l) = run-at-within codes rs i d (and-parts (run-within codes r) (runs-within codes rs) h .1) l
 
 -- one of parts within the lists lies within them
 pub part-at-within : (codes : List ℕ) (runs : List Run) (ps : List PlacedPart) (i : ℕ) (d : PlacedPart) → parts-within codes runs ps ≡ true → i < length ps → part-within codes runs (getD ps i d .part) ≡ true

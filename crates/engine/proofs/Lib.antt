@@ -2,6 +2,7 @@ pub mod Anchoring
 pub mod Assembling
 pub mod Bodies
 pub mod Classes
+pub mod Comparing
 pub mod Cutting
 pub mod Fits
 pub mod Gaps
@@ -10,8 +11,10 @@ pub mod Items
 pub mod Lengths
 pub mod Machine
 pub mod Mirrored
+pub mod Reaching
 pub mod Runs
 pub mod Scans
+pub mod Seen
 pub mod Shifting
 pub mod Shows
 pub mod Steps

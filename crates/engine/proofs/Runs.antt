@@ -16,6 +16,7 @@ use Rattle.kinds.specs.declared.pattern.Direction.the-variants.{FirstOn, LastOn
 use Rattle.kinds.proofs.Decisions.{same-decides}
 use Rattle.engine.specs.Stored.{run-codes, run-within, runs-within, part-within, parts-within}
 use Rattle.engine.specs.Tallies.{longest-run}
+use Rattle.engine.specs.Views.{position}
 use Rattle.engine.specs.declared.part.PlacedPart.{PlacedPart}
 use Rattle.engine.specs.declared.run.Run.{Run}
 
@@ -46,11 +47,6 @@ part-within-at codes runs (p ∷ ps) (suc i) d h l =
 abbrev pub strictly : List ℕ → List ℕ → Bool
 strictly xs ys = up-to xs ys && not (same xs ys)
 
--- where a comparison of lists of n codes is after i codes
-abbrev pub position : Direction → ℕ → ℕ → ℕ
-position FirstOn n i = i
-position LastOn n i = n - 1 - i
-
 -- reversed lists are the same where the lists are
 same-reversed : (xs ys : List ℕ) → same (reverse xs) (reverse ys) ≡ same xs ys
 same-reversed xs ys =
@@ -71,7 +67,7 @@ length-compared FirstOn xs = refl
 length-compared LastOn xs = length-reverse xs
 
 -- the code that is compared after i codes
-compared-at : (d : Direction) (xs : List ℕ) (i : ℕ) → i < length xs → getD (compared d xs) i 0 ≡ getD xs (position d (length xs) i) 0
+pub compared-at : (d : Direction) (xs : List ℕ) (i : ℕ) → i < length xs → getD (compared d xs) i 0 ≡ getD xs (position d (length xs) i) 0
 compared-at FirstOn xs i h = refl
 compared-at LastOn xs i h = getD-reverse xs i 0 h
 

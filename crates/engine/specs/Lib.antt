@@ -11,3 +11,4 @@ pub mod Stored
 pub mod Tallies
 pub mod Tokens
 pub mod Turned
+pub mod Views

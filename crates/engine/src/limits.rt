@@ -45,7 +45,7 @@ struct Tally {
 }
 
 // The codes of a run.
-fn codes_of(pattern: &Pattern, run: Run) -> &[u16]
+pub(crate) fn codes_of(pattern: &Pattern, run: Run) -> &[u16]
     requires { ⌜ run-within (vec-items (now pattern .codes)) run ≡ true ⌝ }
     ensures { λ r. ⌜ now r ≡ run-codes (vec-items (now (pattern .entry) .codes)) run ⌝ }
 {

@@ -5,7 +5,8 @@ use lib.Dec.{ltb}
 use lib.ListN.{length, getD}
 use Rattle.std.proofs.shelf.Lists.{drop-all}
 use Rattle.kinds.specs.Patterns.{compared}
-use Rattle.engine.proofs.Runs.{strictly, position, before-strictly, length-compared, order-goes-on, order-decided}
+use Rattle.engine.specs.Views.{position}
+use Rattle.engine.proofs.Runs.{strictly, before-strictly, length-compared, order-goes-on, order-decided}
 use Rattle.engine.proofs.limits.comes_before.Needs as need
 use Rattle.engine.proofs.limits.comes_before.Needs.{Joined-direction, in-FirstOn, in-LastOn}
 

@@ -13,10 +13,8 @@ use Rattle.engine.specs.declared.part.Part.{Part}
 use Rattle.engine.specs.declared.part.Part.the-variants as part
 use Rattle.engine.specs.declared.part.PlacedPart.{PlacedPart}
 use Rattle.engine.specs.declared.run.Run.{Run}
-
--- a run within the codes has as many codes as it says
-pub run-length : (codes : List ℕ) (r : Run) → run-within codes r ≡ true → length (run-codes codes r) ≡ r .len
-run-length codes r h = let fits : r .start + r .len ≤ length codes = leb-true _ _ h in simp (length-take, length-drop) (omega arith)
+use Rattle.engine.proofs.Growth.{runs-within-drop, runs-within-take}
+use Rattle.engine.proofs.Runs.{run-length}
 
 -- the least of a number and the lengths of runs
 abbrev pub least-len : ℕ → List Run → ℕ
@@ -40,20 +38,6 @@ shortest-is codes r (s ∷ rs) h =
     ap (λ n. min n (shortest (map (run-codes codes) (s ∷ rs)))) (run-length codes r (parts .0))
     ∙ ap (min (r .len)) (shortest-is codes s rs (parts .1))
     ∙ sym (least-len-min (r .len) (s .len) rs)
-
--- the runs from a place on lie within the codes
-pub runs-drop-within : (codes : List ℕ) (n : ℕ) (rs : List Run) → runs-within codes rs ≡ true → runs-within codes (drop n rs) ≡ true
-runs-drop-within codes zero rs h = h
-runs-drop-within codes (suc n) [] h = h
-runs-drop-within codes (suc n) (r ∷ rs) h = runs-drop-within codes n rs (and-parts (run-within codes r) (runs-within codes rs) h .1)
-
--- the first of some runs lie within the codes
-pub runs-take-within : (codes : List ℕ) (n : ℕ) (rs : List Run) → runs-within codes rs ≡ true → runs-within codes (take n rs) ≡ true
-runs-take-within codes zero rs h = refl
-runs-take-within codes (suc n) [] h = h
-runs-take-within codes (suc n) (r ∷ rs) h =
-    let parts = and-parts (run-within codes r) (runs-within codes rs) h in
-    and-from (run-within codes r) (runs-within codes (take n rs)) (parts .0) (runs-take-within codes n rs (parts .1))
 
 -- one of runs within the codes lies within them
 pub run-at-within : (codes : List ℕ) (rs : List Run) (i : ℕ) (d : Run) → runs-within codes rs ≡ true → i < length rs → run-within codes (getD rs i d) ≡ true
@@ -91,7 +75,7 @@ module _ (codes : List ℕ) (runs : List Run) (p : Part) where
   least-group first count is h within slice n same by =
       let whole : first + count - first ≡ count = omega arith in
       let some : take (first + count - first) (drop first slice) ≡ take count (drop first runs) = ap (λ k. take k (drop first slice)) whole ∙ ap (λ rs. take count (drop first rs)) same in
-      by (subst (λ rs. runs-within codes rs ≡ true) (sym some) (runs-take-within codes count (drop first runs) (runs-drop-within codes first runs within)))
+      by (subst (λ rs. runs-within codes rs ≡ true) (sym some) (runs-within-take codes count (drop first runs) (runs-within-drop codes first runs within)))
       ∙ ap (λ rs. shortest (map (run-codes codes) rs)) some
       ∙ sym (ap (λ q. least (item-of codes runs q)) is)
 

@@ -2,12 +2,8 @@
 use mathlib.Core.Path.{_≡_, refl, ap, _∙_}
 use mathlib.Core.Bool.{Bool, true, false, cond}
 use mathlib.Core.List.{List, [], _∷_, _++_}
-use Prim.Native.Nat.{ℕ, _+_, _-_, _*_, _≤_, _<_}
+use Prim.Native.Nat.{ℕ, _+_, _-_, _*_}
 use native.Mathlib.Numerals.{add-one}
-use native.Mathlib.Omega.{arith}
-use lib.ListN.{length, getD, take, drop, length-drop}
-use lib.Seq.{getD-drop}
-use Rattle.std.proofs.shelf.Lists.{take-more}
 use Rattle.kinds.specs.Alphabet.{within}
 use Rattle.kinds.specs.Grammar.{Digits, followed-by}
 use Rattle.kinds.specs.Reader.{some-below}
@@ -25,12 +21,3 @@ digits-more (x ∷ xs) d h e = (h .0, digits-more xs d (h .1) e)
 pub followed-by-more : (n : ℕ) (ds : List ℕ) (d : ℕ) → followed-by n (ds ++ d ∷ []) ≡ 10 * followed-by n ds + (d - 48)
 followed-by-more n [] d = refl
 followed-by-more n (x ∷ xs) d = followed-by-more (10 * n + (x - 48)) xs d
-
--- the characters from one place to another, and one more
-pub stretch-more : (t : List ℕ) (place end : ℕ) → place ≤ end → end < length t → take (end + 1 - place) (drop place t) ≡ take (end - place) (drop place t) ++ getD t end 0 ∷ []
-stretch-more t place end h i =
-    let on : end + 1 - place ≡ end - place + 1 = omega arith in
-    let at : place + (end - place) ≡ end = omega arith in
-    ap (λ n. take n (drop place t)) on
-    ∙ take-more (drop place t) (end - place) 0 (simp length-drop (omega arith))
-    ∙ ap (λ c. take (end - place) (drop place t) ++ c ∷ []) (getD-drop place t (end - place) 0 ∙ ap (λ k. getD t k 0) at)

@@ -8,7 +8,8 @@ use lib.ListN.{getD, take, drop}
 use Rattle.std.proofs.shelf.Tests.{leb-true, and-parts}
 use Rattle.kinds.specs.Alphabet.{within}
 use Rattle.kinds.specs.Grammar.{Digits, followed-by}
-use Rattle.engine.proofs.Scans.{digits-more, followed-by-more, stretch-more}
+use Rattle.engine.proofs.Bodies.{stretch-more}
+use Rattle.engine.proofs.Scans.{digits-more, followed-by-more}
 use Rattle.engine.proofs.lexer.number.Needs as need
 
 pub loop-end-again : need.loop-end-again
@@ -16,7 +17,7 @@ loop-end-again c =
     let t = c .args .text .now in
     let place = c .args .place in
     let end = c .loop-end .end in
-    let more = stretch-more t place end (omega arith) (omega arith) in
+    let more = stretch-more t place end 0 (omega arith) (omega arith) in
     let k = end - place in
     let digit : within 48 57 (getD t end 0) ≡ true = sym (c .if-is-ascii-digit .ensures tt .value) in
     let low : getD t end 0 ≤ 57 = leb-true (getD t end 0) 57 (and-parts (leb 48 (getD t end 0)) (leb (getD t end 0) 57) digit .1) in

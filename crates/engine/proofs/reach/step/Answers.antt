@@ -8,7 +8,7 @@ use Rattle.kinds.specs.Patterns.{literal, other, range}
 use Rattle.kinds.specs.declared.pattern.Direction.the-variants.{FirstOn}
 use Rattle.engine.specs.Stored.{item-of, runs-within}
 use Rattle.engine.specs.Views.{seen, Stepped}
-use Rattle.engine.proofs.Lengths.{runs-drop-within, runs-take-within}
+use Rattle.engine.proofs.Growth.{runs-within-drop, runs-within-take}
 use Rattle.engine.proofs.Reaching.{alike, alone, others}
 use Rattle.engine.proofs.reach.step.Needs as need
 
@@ -19,7 +19,7 @@ behind-group-requires g c κs =
     let first = c .in-Group .first in
     let n = first + c .in-Group .count - first in
     subst (λ rs. runs-within codes (take n (drop first rs)) ≡ true) (sym (c .as-slice .ensures .value))
-    (runs-take-within codes n (drop first runs) (runs-drop-within codes first runs (c .args .pattern .now .«runs_within»)))
+    (runs-within-take codes n (drop first runs) (runs-within-drop codes first runs (c .args .pattern .now .«runs_within»)))
 
 pub returns-in-Literal : need.returns-in-Literal
 returns-in-Literal g c =

@@ -1,11 +1,7 @@
 // The engine: it reads pattern texts, compiles them, and searches readings.
-mod context;
-mod reach;
-mod step;
-mod store;
-mod view;
 pub mod cause;
 pub mod compile;
+mod context;
 pub mod fault;
 pub mod fragment;
 pub mod lexer;
@@ -13,9 +9,13 @@ pub mod limits;
 pub mod mirror;
 pub mod part;
 pub mod pattern;
+mod reach;
 pub mod reader;
 pub mod run;
 pub mod scan;
 pub mod sequence;
+mod step;
+mod store;
 pub mod text;
 pub mod token;
+mod view;

@@ -1,4 +1,6 @@
 // Measures the search: how long a file's bytes are searched for a pattern text.
+#![tactic(auto)]
+
 use engine::cause::Cause;
 use engine::fault::Fault;
 use engine::text::compiled;
@@ -8,7 +10,8 @@ use kinds::held::Held;
 use kinds::pattern::Reference;
 use kinds::reading::Reading;
 use std::alloc::Global;
-use std::{env, fs};
+use std::process::ExitCode;
+use std::{env, fs, io};
 
 mod complaint;
 mod measure;
@@ -77,10 +80,12 @@ fn run(rt: &HostRuntime) -> Result<(), Complaint> {
     Ok(())
 }
 
-fn main(rt: HostRuntime) -> Result<(), Complaint> {
-    let result = run(&rt);
-    if let Err(complaint) = &result {
-        rt.eprintln(format_args!("bench: {complaint}"))?;
+fn main(rt: HostRuntime) -> io::Result<ExitCode> {
+    match run(&rt) {
+        Ok(()) => Ok(ExitCode::SUCCESS),
+        Err(complaint) => {
+            rt.eprintln(format_args!("bench: {complaint}"))?;
+            Ok(ExitCode::FAILURE)
+        }
     }
-    result
 }

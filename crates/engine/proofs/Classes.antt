@@ -1,8 +1,8 @@
 -- What the reader of texts does with a character, by its class where something is expected.
-use Rattle.std.proofs.Common.{◌≡◌, ℕ, ◌+◌, ◌<◌, ◌≤◌, Bool, true, false, cond, eqb, ◌⊎◌, List, length, get_or, take, drop, is_some, Some, None, Err, Option, sym, refl, ap, ◌∙◌, subst, inl, inr, arith, Bor}
+use Rattle.std.proofs.Common.{◌≡◌, ℕ, ◌+◌, ◌<◌, Bool, true, false, cond, ◌⊎◌, List, length, get_or, drop, is_some, Some, None, Err, sym, refl, ap, ◌∙◌, subst, inl, inr, arith, Bor}
 use Rattle.kinds.specs.Alphabet.{Alphabet}
-use Rattle.kinds.specs.Grammar.{Position, start, after_thing, after_gap}
-use Rattle.kinds.specs.Patterns.{Item, any, gap}
+use Rattle.kinds.specs.Grammar.{start, after_thing, after_gap}
+use Rattle.kinds.specs.Patterns.{any, gap}
 use Rattle.kinds.specs.Reader.{State, between, asked, half, alternatives, bracket, low, high, digits, endless, Next, stuck, goes_on, complete, leads, with_code, with_element, pair_in, next, follow}
 use Rattle.kinds.specs.Reader.{least as lower}
 use Rattle.engine.specs.Scanning.{ReadsLiteral, StopsInPair}

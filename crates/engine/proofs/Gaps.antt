@@ -1,9 +1,9 @@
 -- What the reader of texts does with a gap in braces, by the numbers and characters that stand there.
-use Rattle.std.proofs.Common.{◌≡◌, ℕ, ◌+◌, ◌<◌, ◌≤◌, Bool, true, false, ◌&&◌, eqb, ltb, List, length, get_or, drop, Some, None, Option, sym, refl, ap, ◌∙◌, ⊎_elim, arith}
+use Rattle.std.proofs.Common.{◌≡◌, ℕ, ◌+◌, ◌<◌, Bool, true, false, ◌&&◌, eqb, ltb, List, length, get_or, drop, Some, None, Option, refl, ap, ◌∙◌, ⊎_elim, arith}
 use Rattle.std.proofs.lemmas.Bool.{eqb-true, ltb-true, lt-ltb, ne_eqb, and_parts, and_cases, and_left, and_right, and_from, both_ways, cond-false, cond_both}
 use Rattle.kinds.specs.Alphabet.{Alphabet, within}
 use Rattle.kinds.specs.Patterns.{Item, gap}
-use Rattle.kinds.specs.Reader.{State, digits, endless, Numeral, stuck, goes_on, complete, closed, behind_digits, next, follow}
+use Rattle.kinds.specs.Reader.{digits, endless, Numeral, stuck, goes_on, complete, closed, behind_digits, next, follow}
 use Rattle.kinds.specs.Reader.{least as lower, most as upper}
 use Rattle.engine.specs.Scanning.{NoDigit, LongestNumber}
 use Rattle.engine.specs.Tokens.{continued, Completes, Stops}

@@ -1,6 +1,6 @@
 -- The least lengths of stored parts.
-use Rattle.std.proofs.Common.{◌≡◌, ℕ, zero, suc, ◌+◌, ◌-◌, ◌<◌, ◌≤◌, min, Bool, true, List, [], ◌∷◌, map, length, get_or, take, drop, sym, refl, ap, ◌∙◌, subst, suc-le-suc, arith, length-drop, length-take}
-use Rattle.std.proofs.lemmas.Bool.{leb-true, and_parts, and_from}
+use Rattle.std.proofs.Common.{◌≡◌, ℕ, zero, suc, ◌+◌, ◌-◌, ◌<◌, min, Bool, true, List, [], ◌∷◌, map, length, get_or, take, drop, sym, refl, ap, ◌∙◌, subst, suc-le-suc, arith}
+use Rattle.std.proofs.lemmas.Bool.{and_parts, and_from}
 use Rattle.kinds.specs.Fragments.{shortest, least}
 use Rattle.kinds.specs.declared.pattern.Direction.{Direction}
 use Rattle.engine.specs.Stored.{run_codes, run_within, all_runs_within, part_within, all_parts_within, item_of}

@@ -1,13 +1,12 @@
 -- What the reader of texts does from a place of a text on: one character, a number, the end.
-use Rattle.std.proofs.Common.{◌≡◌, ℕ, suc, ◌+◌, ◌-◌, ◌*◌, ◌<◌, ◌≤◌, Bool, true, false, cond, ◌&&◌, eqb, ltb, List, [], ◌∷◌, ◌++◌, length, get_or, take, drop, Err, sym, refl, ap, ◌∙◌, subst, ⊎_elim, add-zero, arith, length-drop, take-append-drop, length-take-le}
+use Rattle.std.proofs.Common.{◌≡◌, ℕ, suc, ◌+◌, ◌-◌, ◌*◌, ◌<◌, ◌≤◌, Bool, true, false, eqb, List, [], ◌∷◌, ◌++◌, length, get_or, take, drop, sym, refl, ap, ◌∙◌, ⊎_elim, add-zero, arith, length-drop, take-append-drop, length-take-le}
 use Rattle.std.proofs.lemmas.List.{drop_more, drop_all, drop-drop}
-use Rattle.std.proofs.lemmas.Bool.{cases_lt, cond-true, cond-false, lt-ltb, le-ltb, ne_eqb, and_left, and_right, and_from}
-use Rattle.std.proofs.lemmas.Bool.Decides.{nat_tests}
+use Rattle.std.proofs.lemmas.Bool.{cases_lt, cond-true, cond-false, lt-ltb, le-ltb, ne_eqb, and_left}
 use Rattle.kinds.specs.Alphabet.{Alphabet, within}
 use Rattle.kinds.specs.Grammar.{Digits, followed_by}
-use Rattle.kinds.specs.Reader.{State, digits, endless, Numeral, Next, stuck, goes_on, complete, only_if, closed, behind_digits, next, finished, follow}
+use Rattle.kinds.specs.Reader.{State, digits, Numeral, Next, stuck, goes_on, complete, only_if, closed, behind_digits, next, finished, follow}
 use Rattle.kinds.specs.Reader.{least as lower, most as upper}
-use Rattle.engine.specs.Scanning.{NoDigit, LongestNumber}
+use Rattle.engine.specs.Scanning.{LongestNumber}
 use Rattle.engine.specs.Tokens.{continued, Stops}
 
 -- a step under a test that passes, and one under a test that fails

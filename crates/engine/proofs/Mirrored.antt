@@ -1,8 +1,8 @@
 -- A stored pattern whose codes are reversed, and whose runs and parts follow, stands for the mirrored items.
-use Rattle.std.proofs.Common.{◌≡◌, ℕ, ◌+◌, ◌-◌, ◌≤◌, Bool, true, false, ◌&&◌, leb, List, [], ◌∷◌, ◌++◌, map, reverse, length, take, drop, sym, refl, ap, ◌∙◌, subst, append_assoc, arith, length-append, length-drop, take-append-drop}
+use Rattle.std.proofs.Common.{◌≡◌, ℕ, ◌+◌, ◌-◌, ◌≤◌, true, leb, List, [], ◌∷◌, ◌++◌, map, reverse, length, take, drop, sym, refl, ap, ◌∙◌, append_assoc, arith, length-drop, take-append-drop}
 use mathlib.Core.List.{map-append, reverse-append, reverse-cons}
 use lib.ListN.{length-map, length-reverse}
-use Rattle.std.proofs.lemmas.List.{take_at, drop_at, drop-drop, take-map, drop-map}
+use Rattle.std.proofs.lemmas.List.{take_at, drop_at, take-map, drop-map}
 use Rattle.std.proofs.lemmas.Bool.{leb-true, le-leb, and_parts, and_from}
 use Rattle.kinds.specs.Fragments.{mirrored_placed}
 use Rattle.kinds.specs.Grammar.{Placed}

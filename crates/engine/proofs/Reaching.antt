@@ -14,7 +14,7 @@ use Rattle.rows.specs.Rows.{member, moved, some_distance}
 use Rattle.rows.proofs.Distances.{reached, from_reached, one_distance}
 use Rattle.kinds.specs.Fragments.{bodies}
 use Rattle.engine.specs.Stored.{item_of, items}
-use Rattle.engine.specs.Views.{matches_at, Led, Stepped}
+use Rattle.engine.specs.Views.{matches_at, Stepped}
 use Rattle.engine.specs.declared.part.PlacedPart.{PlacedPart}
 use Rattle.engine.specs.declared.run.Run.{Run}
 use Rattle.engine.proofs.Bodies.{stretch_more}

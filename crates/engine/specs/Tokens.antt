@@ -1,10 +1,9 @@
 -- What tokens do to the reader of texts: the link between the lexer and the reader's definition.
-use Rattle.std.specs.Prelude.{◌≡◌, ℕ, ◌+◌, ◌<◌, ◌≤◌, Bool, true, false, cond, not, ◌&&◌, List, [], ◌∷◌, ◌++◌, length, take, drop, Some, None, Ok, Err, Option, Result, ◌==◌}
+use Rattle.std.specs.Prelude.{◌≡◌, ℕ, ◌<◌, ◌≤◌, cond, List, length, take, drop, Some, None, Ok, Err, Option, Result, ◌==◌}
 use Rattle.kinds.specs.Alphabet.{Alphabet}
-use Rattle.kinds.specs.Grammar.{Placed, Position, start, after_thing, after_gap, gap_allowed, behind}
-use Rattle.kinds.specs.Patterns.{Item, literal, any, group, range, other, gap}
-use Rattle.kinds.specs.Reader.{State, between, asked, half, alternatives, bracket, low, high, digits, endless, least, most, Next, stuck, goes_on, complete, begun, only_if, with_code, next, pair_in, follow, in_front}
-use Rattle.kinds.specs.declared.pattern.Direction.TheVariants.{FirstOn}
+use Rattle.kinds.specs.Grammar.{Placed, gap_allowed, behind}
+use Rattle.kinds.specs.Patterns.{Item, any, gap}
+use Rattle.kinds.specs.Reader.{State, between, asked, half, alternatives, bracket, low, high, digits, endless, Next, stuck, goes_on, complete, with_code, next, follow, in_front}
 use Rattle.engine.specs.declared.token.Punctuation.{Punctuation}
 use Rattle.engine.specs.declared.token.Punctuation.TheVariants.{OpenGroup, Bar, CloseGroup, OpenRange, Except, Colon, CloseRange}
 use Rattle.engine.specs.declared.token.Expects.{Expects}

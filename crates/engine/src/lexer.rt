@@ -53,7 +53,7 @@ fn class(expects: Expects, c: u8) -> Class
 
 // Whether some pair that begins with this character names an element.
 fn begins_pair<K: Kind>(first: u8) -> bool
-    ensures { result ≡ leads alphabet first }
+    ensures { result ≡ leads K.alphabet first }
 {
     for second in 0..=u8::MAX {
         if K::named(first, second).is_some() {
@@ -66,7 +66,7 @@ fn begins_pair<K: Kind>(first: u8) -> bool
 // A literal at a place: the code of its element, or the place where the text cannot be read on.
 fn literal<K: Kind>(text: &[u8], place: usize) -> Result<u16, usize>
     requires { place < length text.now }
-    ensures { MatchResult result (ReadsLiteral alphabet text.now place) (StopsInPair alphabet text.now place) }
+    ensures { MatchResult result (ReadsLiteral K.alphabet text.now place) (StopsInPair K.alphabet text.now place) }
 {
     let first = text[place];
     if place + 1 < text.len() {
@@ -110,7 +110,7 @@ fn stands(text: &[u8], place: usize, c: u8) -> bool
 // read on.
 fn upper_end<K: Kind>(text: &[u8], least: u16, place: usize) -> Result<(Gap, usize), usize>
     requires { place ≤ length text.now }
-    ensures { MatchResult result (ReadsGap alphabet text.now (digits (upper least) 0 0) place) (Stops alphabet text.now (digits (upper least) 0 0) place) }
+    ensures { MatchResult result (ReadsGap K.alphabet text.now (digits (upper least) 0 0) place) (Stops K.alphabet text.now (digits (upper least) 0 0) place) }
 {
     let (most, end) = if stands(text, place, b'*') {
         (None, place + 1)
@@ -130,7 +130,7 @@ fn upper_end<K: Kind>(text: &[u8], least: u16, place: usize) -> Result<(Gap, usi
 // A gap behind its opening brace.
 fn gap<K: Kind>(text: &[u8], place: usize) -> Result<(Gap, usize), usize>
     requires { place ≤ length text.now }
-    ensures { MatchResult result (ReadsGap alphabet text.now (digits lower 0 0) place) (Stops alphabet text.now (digits lower 0 0) place) }
+    ensures { MatchResult result (ReadsGap K.alphabet text.now (digits lower 0 0) place) (Stops K.alphabet text.now (digits lower 0 0) place) }
 {
     let Some((least, end)) = number(text, place) else {
         return Err(place);
@@ -152,7 +152,7 @@ fn token_at<'t, K: Kind>(
     expects: Expects,
 ) -> Result<(Token<'t>, usize), usize>
     requires { place < length text.now }
-    ensures { MatchResult result (ReadsPart alphabet text.now expects place) (StopsExpecting alphabet text.now expects place) }
+    ensures { MatchResult result (ReadsPart K.alphabet text.now expects place) (StopsExpecting K.alphabet text.now expects place) }
 {
     match class(expects, text[place]) {
         Class::Mark(mark) => Ok((Token::Mark(mark), place + 1)),
@@ -205,7 +205,7 @@ impl<'t> Lexer<'t> {
     // on. Only a token moves the lexer on.
     pub fn next<K: Kind>(&mut self, expects: Expects) -> Result<Option<Token<'t>>, usize>
         ensures same_text { self.new.text.now ≡ self.old.text.now }
-        ensures token { Lexed alphabet self.old.text.now expects self.old.place result self.new.place }
+        ensures token { Lexed K.alphabet self.old.text.now expects self.old.place result self.new.place }
     {
         let place = self.place;
         let text = self.text;

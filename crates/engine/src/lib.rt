@@ -1,4 +1,6 @@
 // The engine: it reads pattern texts, compiles them, and searches readings.
+#![tactic(auto)]
+
 pub mod cause;
 pub mod compile;
 mod context;

@@ -28,7 +28,7 @@ fn refusal(sequence: u8, place: usize) -> Fault
 
 // Reads a pattern text into its items.
 pub fn read<K: Kind>(heap: Global, sequence: u8, text: &[u8]) -> Result<Pattern, Fault>
-    ensures { Read alphabet text.now sequence result }
+    ensures { Read K.alphabet text.now sequence result }
 {
     let mut pattern = Pattern::new(heap);
     let mut lexer = Lexer::new(text);

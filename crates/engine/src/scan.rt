@@ -9,8 +9,8 @@ use kinds::reading::Reading;
 
 // Whether an anchor stands at a place of a reading, or at its end.
 fn fits<R: Reading>(reading: &R, anchor: &[u16], place: u32) -> bool
-    requires { place ≤ length (elements reading.now) }
-    ensures { result ≡ stands_at anchor.now (codes_of Element-as-Kind.alphabet (elements reading.now)) place }
+    requires { place ≤ length (R.elements reading.now) }
+    ensures { result ≡ stands_at anchor.now (codes_of R.Element.Kind.alphabet (R.elements reading.now)) place }
 {
     let mut at = place;
     for code in anchor {
@@ -34,7 +34,7 @@ pub fn next_fit<R: Reading>(
     from: u32,
     to: u32,
 ) -> Option<u32>
-    ensures { ShiftsOf shifts.now anchor.now → result ≡ not_past to (first_fit anchor.now (codes_of Element-as-Kind.alphabet (elements reading.now)) from) }
+    ensures { ShiftsOf shifts.now anchor.now → result ≡ not_past to (first_fit anchor.now (codes_of R.Element.Kind.alphabet (R.elements reading.now)) from) }
 {
     let len = reading.len() as usize;
     let width = anchor.len();

@@ -18,7 +18,7 @@ use kinds::reading::Reading;
 
 // Whether the fragments are found in a reading one behind the other, the first starting no further than `until`.
 fn found<R: Reading>(sequence: &Sequence, reading: &R, until: Option<u64>) -> bool
-    ensures { (ref : Reference) (gs : List spec.Fragment) → AllSearched ref (held sequence.now.pattern) (held sequence.now.mirror) sequence.now.fragments.items gs → result ≡ found_one_by_one gs 0 until (codes_of Element-as-Kind.alphabet (elements reading.now)) }
+    ensures { (ref : Reference) (gs : List spec.Fragment) → AllSearched ref (held sequence.now.pattern) (held sequence.now.mirror) sequence.now.fragments.items gs → result ≡ found_one_by_one gs 0 until (codes_of R.Element.Kind.alphabet (R.elements reading.now)) }
 {
     let mut end: u64 = 0;
     let mut latest = until;
@@ -44,8 +44,8 @@ fn found<R: Reading>(sequence: &Sequence, reading: &R, until: Option<u64>) -> bo
 
 // Whether a sequence hits a reading: the decision of the rule, which is true exactly when a placement exists.
 pub fn hits<R: Reading>(sequence: &Sequence, reading: &R) -> bool
-    ensures decision { result ≡ hits_by_rule sequence.now.reference sequence.now.lo sequence.now.hi (bodies (said sequence.now)) (codes_of Element-as-Kind.alphabet (elements reading.now)) }
-    ensures placement { Decides result (Placement sequence.now.reference sequence.now.lo sequence.now.hi (bodies (said sequence.now)) (codes_of Element-as-Kind.alphabet (elements reading.now))) }
+    ensures decision { result ≡ hits_by_rule sequence.now.reference sequence.now.lo sequence.now.hi (bodies (said sequence.now)) (codes_of R.Element.Kind.alphabet (R.elements reading.now)) }
+    ensures placement { Decides result (Placement sequence.now.reference sequence.now.lo sequence.now.hi (bodies (said sequence.now)) (codes_of R.Element.Kind.alphabet (R.elements reading.now))) }
 {
     let until = Some(u64::from(sequence.hi));
     match sequence.reference {

@@ -25,7 +25,7 @@ use std::alloc::Global;
 
 // A text's items, or its refusal.
 pub fn checked<K: Kind>(heap: Global, sequence: u8, text: &[u8]) -> Result<Pattern, Fault>
-    ensures { Checked alphabet text.now sequence result }
+    ensures { Checked K.alphabet text.now sequence result }
 {
     let pattern = read::<K>(heap, sequence, text)?;
     match refusal(&pattern) {
@@ -67,7 +67,7 @@ pub fn compiled<K: Kind>(
     hi: u16,
     text: &[u8],
 ) -> Result<Sequence, Fault>
-    ensures { Compiled alphabet text.now number reference lo hi result }
+    ensures { Compiled K.alphabet text.now number reference lo hi result }
 {
     let pattern = in_order(checked::<K>(heap, number, text)?, reference);
     let mirror = mirrored(pattern.copied(heap)?);
@@ -108,7 +108,7 @@ pub fn show<K: Kind>(
     number: usize,
     index: u8,
 ) -> Result<Option<(u64, u64, usize, u32)>, Fault>
-    ensures { Shown alphabet text.now 1 reference lo number index result }
+    ensures { Shown K.alphabet text.now 1 reference lo number index result }
 {
     let sequence = compiled::<K>(heap, 1, reference, lo, lo, text)?;
     Ok(numbers_of(sequence.fragments.as_slice(), number, index))
@@ -123,7 +123,7 @@ pub fn hit<R: Reading>(
     text: &[u8],
     reading: &R,
 ) -> Result<bool, Fault>
-    ensures { Hit Element-as-Kind.alphabet text.now 1 reference lo hi (codes_of Element-as-Kind.alphabet (elements reading.now)) result }
+    ensures { Hit R.Element.Kind.alphabet text.now 1 reference lo hi (codes_of R.Element.Kind.alphabet (R.elements reading.now)) result }
 {
     let sequence = compiled::<R::Element>(heap, 1, reference, lo, hi, text)?;
     Ok(hits(&sequence, reading))

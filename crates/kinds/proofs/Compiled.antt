@@ -1,7 +1,7 @@
 -- The definitions of fragments and their numbers, computed on the published worked example and on texts at the limits.
-use Rattle.std.proofs.Common.{◌≡◌, ℕ, true, false, List, [], ◌∷◌, length, Some, None, Ok, Err, codes, Option, Result, refl}
+use Rattle.std.proofs.Common.{◌≡◌, ℕ, true, false, List, [], ◌∷◌, length, Some, None, Ok, Err, codes, Option, refl}
 use Rattle.kinds.specs.Bytes.{byte_alphabet}
-use Rattle.kinds.specs.Fragments.{Fragment, fragments, limit_place, bare_place, oriented, bodies, anchor, Anchor, lead, shift}
+use Rattle.kinds.specs.Fragments.{Fragment, fragments, limit_place, bare_place, oriented, bodies, anchor, lead, shift}
 use Rattle.kinds.specs.Grammar.{Placed}
 use Rattle.kinds.specs.Reader.{items_of, some_below}
 use Rattle.kinds.specs.Search.{found}

@@ -1,5 +1,5 @@
 -- The definitions of patterns, computed on examples.
-use Rattle.std.proofs.Common.{◌≡◌, ℕ, Bool, true, false, List, [], ◌∷◌, Some, None, Ok, Err, codes, refl}
+use Rattle.std.proofs.Common.{◌≡◌, true, false, List, [], ◌∷◌, Some, None, Ok, Err, codes, refl}
 use Rattle.kinds.specs.Bytes.{byte_alphabet}
 use Rattle.kinds.specs.Patterns.{Item, hits, literal, any, group, range, other, gap}
 use Rattle.kinds.specs.Reader.{items_of, some_below}

@@ -1,5 +1,5 @@
 -- Axle marks as a kind: U0, S0 to S9 and D0 to D9.
-use Rattle.std.specs.Prelude.{◌≡◌, ℕ, ◌+◌, ◌-◌, ◌%◌, ◌<◌, cond, ◌&&◌, Some, None, Option, ◌==◌, nat_lt, refl}
+use Rattle.std.specs.Prelude.{ℕ, ◌+◌, ◌-◌, ◌%◌, cond, ◌&&◌, Some, None, Option, ◌==◌, nat_lt}
 use Rattle.std.proofs.Common.{arith}
 use Rattle.kinds.specs.Alphabet.{Alphabet, within}
 use Rattle.kinds.specs.declared.byte.Byte.{Byte}

@@ -1,7 +1,7 @@
 -- A reader of pattern texts that computes, character by character. Theorems tie it to the grammar.
 use Rattle.std.specs.Prelude.{◌≡◌, ℕ, zero, suc, ◌+◌, ◌-◌, ◌*◌, Bool, true, false, cond, not, ◌&&◌, List, [], ◌∷◌, ◌++◌, length, is_some, Some, None, Ok, Err, Option, Result, ◌==◌, nat_lt}
 use Rattle.kinds.specs.Alphabet.{Alphabet, within}
-use Rattle.kinds.specs.Grammar.{Placed, Position, start, after_thing, after_gap, gap_allowed, may_end, behind, Text, Longest}
+use Rattle.kinds.specs.Grammar.{Placed, Position, start, gap_allowed, may_end, behind, Text, Longest}
 use Rattle.kinds.specs.Patterns.{Item, literal, any, group, range, other, gap}
 use Rattle.kinds.specs.declared.pattern.Direction.TheVariants.{FirstOn}
 

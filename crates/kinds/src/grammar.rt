@@ -5,14 +5,14 @@ use crate::kind::Kind;
 
 // The reader reads exactly the texts of the grammar, each in one way.
 pub fn reads_exactly<K: Kind>() -> bool
-    ensures { ReadsExactly alphabet }
+    ensures { ReadsExactly K.alphabet }
 {
     true
 }
 
 // It refuses every other text at the longest prefix that begins some text.
 pub fn refuses_at_longest<K: Kind>() -> bool
-    ensures { RefusesAtLongest alphabet }
+    ensures { RefusesAtLongest K.alphabet }
 {
     true
 }

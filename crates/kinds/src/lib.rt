@@ -1,4 +1,6 @@
 // Element kinds, readings, and their meaning: what the engine is generic over.
+#![tactic(auto)]
+
 pub mod backward;
 pub mod byte;
 pub mod grammar;

@@ -22,7 +22,7 @@ pub trait Reading {
 
 // All elements of a reading, in order.
 pub fn to_vec<R: Reading>(heap: Global, reading: &R) -> Result<Vec<R::Element>, AllocError>
-    ensures { IfOk result (λ v. v.items ≡ elements reading.now) }
+    ensures { IfOk result (λ v. v.items ≡ R.elements reading.now) }
 {
     let mut items = Vec::new(heap);
     for place in 0..reading.len() {

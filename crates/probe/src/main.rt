@@ -1,4 +1,6 @@
 // For people who set up patterns and strips: one line of text in, one line out.
+#![tactic(auto)]
+
 use std::alloc::{AllocError, Global};
 use std::io;
 use std::io::{BufRead, BufReader};

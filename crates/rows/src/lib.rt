@@ -1,4 +1,6 @@
 // Sets of offsets below 1,024, as rows of bits: offset k is bit k % 64 of word k / 64.
+#![tactic(auto)]
+
 ghost use Rattle.std.specs.Prelude.{◌≡◌, ℕ, ◌+◌, ◌-◌, ◌*◌, ◌/◌, ◌%◌, ◌<◌, ◌≤◌, Bool, true, false, not, ◌&&◌, ◌||◌, ltb, if◌then◌else◌, MatchBool, MatchOption, ◌==◌, nat_le, nat_lt, slice_index};
 ghost use Rattle.rows.specs.Rows.{bit, member, moved, some_distance, FirstFrom, NoneFrom};
 
@@ -157,7 +159,7 @@ pub trait Question {
 fn answered<Q: Question>(word: u64, base: usize, question: &Q) -> u64
     requires held { 0 < word }
     requires low { base ≤ 960 }
-    ensures { (b : ℕ) → bit result b ≡ (bit word b && asked question.now (base + b)) }
+    ensures { (b : ℕ) → bit result b ≡ (bit word b && Q.asked question.now (base + b)) }
 {
     let least = word.trailing_zeros();
     let mut next = 64 - word.leading_zeros();
@@ -171,7 +173,7 @@ fn answered<Q: Question>(word: u64, base: usize, question: &Q) -> u64
 
 // Leaves out the members for which a question is answered no.
 pub fn keep<Q: Question>(row: &mut Row, question: &Q)
-    ensures { (j : ℕ) → member row.new j ≡ (member row.old j && asked question.now j) }
+    ensures { (j : ℕ) → member row.new j ≡ (member row.old j && Q.asked question.now j) }
 {
     let mut i = used(row);
     while i > 0 {
@@ -184,7 +186,7 @@ pub fn keep<Q: Question>(row: &mut Row, question: &Q)
 
 // The members for which a question is answered yes.
 pub fn kept<Q: Question>(mut row: Row, question: &Q) -> Row
-    ensures { (j : ℕ) → member result j ≡ (member row j && asked question.now j) }
+    ensures { (j : ℕ) → member result j ≡ (member row j && Q.asked question.now j) }
 {
     keep(&mut row, question);
     row

@@ -9,7 +9,7 @@ use std::alloc::Global;
 
 // The elements that the pairs of a text name, in order.
 pub fn read_elements<K: Kind>(heap: Global, text: &[u8]) -> Result<Vec<K>, SpellingFault>
-    ensures { MatchResult result (λ v. spelled alphabet text.now ≡ Ok v.items) (λ e. (e ≢ Memory) → spelled alphabet text.now ≡ Err e) }
+    ensures { MatchResult result (λ v. spelled K.alphabet text.now ≡ Ok v.items) (λ e. (e ≢ Memory) → spelled K.alphabet text.now ≡ Err e) }
 {
     let mut items = Vec::new(heap);
     let mut place = 0;

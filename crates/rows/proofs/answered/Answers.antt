@@ -15,11 +15,11 @@ loop-next-init g c =
       answers_none (g.Q.Question.asked c.args.question.now) c.args.base (64 - count_leading_zeros 64 word),
     )
 
-pub overflow-cast-next : goal.overflow-cast-next
-overflow-cast-next g c = let high = c.loop-next.invariant.1 in omega arith
+pub overflow_cast-next : goal.overflow_cast-next
+overflow_cast-next g c = let high = c.loop-next.invariant.1 in omega arith
 
-pub overflow-add-base : goal.overflow-add-base
-overflow-add-base g c = let high = c.loop-next.invariant.1 in let low = c.requires.low in omega arith
+pub overflow_add-base : goal.overflow_add-base
+overflow_add-base g c = let high = c.loop-next.invariant.1 in let low = c.requires.low in omega arith
 
 pub loop-next-preserved : goal.loop-next-preserved
 loop-next-preserved g c =

@@ -1,5 +1,5 @@
 -- The word at the edge is cut, and the words past it are 0.
-use Rattle.std.proofs.Common.{◌≡◌, ◌/◌, ◌<◌, length, get_or, set, ap, ◌∙◌, ⊎_elim, arith}
+use Rattle.std.proofs.Common.{◌/◌, ◌<◌, length, get_or, set, ap, ◌∙◌, ⊎_elim, arith}
 use Rattle.std.proofs.lemmas.List.{get_or-set_other, get_or-set_same, length-set}
 use Rattle.std.proofs.lemmas.Bool.{cases_eq}
 use Rattle.rows.proofs.Members.{member_all, member_cut}

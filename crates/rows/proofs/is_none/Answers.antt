@@ -3,4 +3,4 @@ use Rattle.rows.proofs.Firsts.{none_at_all}
 use Rattle.rows.proofs.is_none.Goals as goal
 
 pub returns : goal.returns
-returns c = none_at_all c.args.row.now c.first-from.result c.is-none.result c.first-from.ensures c.is-none.ensures
+returns c = none_at_all c.args.row.now c.first_from.result c.is_none.result c.first_from.ensures c.is_none.ensures

@@ -7,11 +7,11 @@ use Rattle.rows.proofs.join_moved.Goals as goal
 pub loop-i-init : goal.loop-i-init
 loop-i-init c = written_none c.args.row.now c.args.end (joins c.args.row.now c.args.end c.args.by) c.told-row
 
-pub moved-word-requires : goal.moved-word-requires
-moved-word-requires c = let within = c.loop-i.invariant.within in omega (arith, c.requires)
+pub moved_word-requires : goal.moved_word-requires
+moved_word-requires c = let within = c.loop-i.invariant.within in omega (arith, c.requires)
 
-pub offset-bounds-row-i : goal.offset-bounds-row-i
-offset-bounds-row-i c = let within = c.loop-i.invariant.within in omega (arith, c.requires)
+pub offset_bounds-row-i : goal.offset_bounds-row-i
+offset_bounds-row-i c = let within = c.loop-i.invariant.within in omega (arith, c.requires)
 
 pub bounds-row-i : goal.bounds-row-i
 bounds-row-i c = let within = c.loop-i.invariant.within in omega (arith, c.requires)
@@ -26,8 +26,8 @@ loop-i-preserved c =
     let i = c.loop-i.i in
     let end = c.args.end in
     let by = c.args.by in
-    written_more old row i end (bit_or (get_or row (i - 1) 0) c.moved-word.result) (joins old end by) c.loop-i.invariant c.loop-i-test.true c.requires
-    (join_word old row i end by c.moved-word.result c.loop-i.invariant c.loop-i-test.true c.moved-word.ensures)
+    written_more old row i end (bit_or (get_or row (i - 1) 0) c.moved_word.result) (joins old end by) c.loop-i.invariant c.loop-i-test.true c.requires
+    (join_word old row i end by c.moved_word.result c.loop-i.invariant c.loop-i-test.true c.moved_word.ensures)
 
 pub returns : goal.returns
 returns c =

@@ -8,20 +8,20 @@ pub loop-i-init : goal.loop-i-init
 loop-i-init g c =
     written_none c.args.row.now c.used-i.result (chosen (g.Q.Question.asked c.args.question.now) c.args.row.now) c.told-row
 
-pub offset-bounds-row-i : goal.offset-bounds-row-i
-offset-bounds-row-i g c = let within = c.loop-i.invariant.within in let few = c.used-i.ensures.count in omega arith
+pub offset_bounds-row-i : goal.offset_bounds-row-i
+offset_bounds-row-i g c = let within = c.loop-i.invariant.within in let few = c.used-i.ensures.count in omega arith
 
 pub bounds-row-i : goal.bounds-row-i
 bounds-row-i g c = let within = c.loop-i.invariant.within in let few = c.used-i.ensures.count in omega arith
 
-pub offset-bounds-row-i-then-row-i-ne0 : goal.offset-bounds-row-i-then-row-i-ne0
-offset-bounds-row-i-then-row-i-ne0 g c = let within = c.loop-i.invariant.within in let few = c.used-i.ensures.count in omega arith
+pub offset_bounds-row-i-then-row-i-ne0 : goal.offset_bounds-row-i-then-row-i-ne0
+offset_bounds-row-i-then-row-i-ne0 g c = let within = c.loop-i.invariant.within in let few = c.used-i.ensures.count in omega arith
 
 pub bounds-row-i-then-row-i-ne0 : goal.bounds-row-i-then-row-i-ne0
 bounds-row-i-then-row-i-ne0 g c = let within = c.loop-i.invariant.within in let few = c.used-i.ensures.count in omega arith
 
-pub overflow-mul-i : goal.overflow-mul-i
-overflow-mul-i g c = let within = c.loop-i.invariant.within in let few = c.used-i.ensures.count in omega arith
+pub overflow_mul-i : goal.overflow_mul-i
+overflow_mul-i g c = let within = c.loop-i.invariant.within in let few = c.used-i.ensures.count in omega arith
 
 pub answered-requires : goal.answered-requires
 answered-requires g c =
@@ -29,8 +29,8 @@ answered-requires g c =
     let few = c.used-i.ensures.count in
     record { held = omega arith; low = omega arith }
 
-pub offset-bounds-row-i-then-row-i-ne0-2 : goal.offset-bounds-row-i-then-row-i-ne0-2
-offset-bounds-row-i-then-row-i-ne0-2 g c = let within = c.loop-i.invariant.within in let few = c.used-i.ensures.count in omega arith
+pub offset_bounds-row-i-then-row-i-ne0-2 : goal.offset_bounds-row-i-then-row-i-ne0-2
+offset_bounds-row-i-then-row-i-ne0-2 g c = let within = c.loop-i.invariant.within in let few = c.used-i.ensures.count in omega arith
 
 pub bounds-row-i-then-row-i-ne0-2 : goal.bounds-row-i-then-row-i-ne0-2
 bounds-row-i-then-row-i-ne0-2 g c = let within = c.loop-i.invariant.within in let few = c.used-i.ensures.count in omega arith

@@ -9,11 +9,11 @@ pub loop-i-init : goal.loop-i-init
 loop-i-init c =
     written_none c.args.row.now c.min-i.result (λ j. ltb j 1024 && moved c.args.row.now c.args.by j) c.told-row
 
-pub moved-word-requires : goal.moved-word-requires
-moved-word-requires c = let within = c.loop-i.invariant.within in omega arith
+pub moved_word-requires : goal.moved_word-requires
+moved_word-requires c = let within = c.loop-i.invariant.within in omega arith
 
-pub offset-bounds-row-i : goal.offset-bounds-row-i
-offset-bounds-row-i c = let within = c.loop-i.invariant.within in omega arith
+pub offset_bounds-row-i : goal.offset_bounds-row-i
+offset_bounds-row-i c = let within = c.loop-i.invariant.within in omega arith
 
 pub bounds-row-i : goal.bounds-row-i
 bounds-row-i c = let within = c.loop-i.invariant.within in omega arith
@@ -23,9 +23,9 @@ loop-i-preserved c =
     let old = c.args.row.now in
     let by = c.args.by in
     let f : ℕ → Bool = λ j. ltb j 1024 && moved old by j in
-    written_more old c.loop-i.row c.loop-i.i c.min-i.result c.moved-word.result f c.loop-i.invariant c.loop-i-test.true (omega arith)
+    written_more old c.loop-i.row c.loop-i.i c.min-i.result c.moved_word.result f c.loop-i.invariant c.loop-i-test.true (omega arith)
     (λ j h e.
-    shift_word old c.loop-i.row c.loop-i.i c.min-i.result by c.moved-word.result f c.loop-i.invariant c.loop-i-test.true c.moved-word.ensures j e
+    shift_word old c.loop-i.row c.loop-i.i c.min-i.result by c.moved_word.result f c.loop-i.invariant c.loop-i-test.true c.moved_word.ensures j e
     ∙ ap (λ t. t && moved old by j) (sym (lt-ltb j 1024 h)))
 
 pub returns : goal.returns

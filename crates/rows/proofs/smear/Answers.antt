@@ -14,9 +14,9 @@ loop-done-preserved c =
     let done = c.loop-done.done in
     let step = c.min-step.result in (
       omega arith,
-      smear_more row all c.join-moved.new.row done step (omega arith) c.loop-done.invariant.1
+      smear_more row all c.join_moved.new.row done step (omega arith) c.loop-done.invariant.1
           (λ j.
-          c.join-moved.ensures j
+          c.join_moved.ensures j
           ∙ smear_short row all c.used.result c.args.reach done step c.min-end.result c.used.ensures.past (omega arith) c.loop-done.invariant.1
           c.min-end.ensures j),
     )

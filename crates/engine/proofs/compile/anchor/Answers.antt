@@ -10,7 +10,7 @@ use Rattle.engine.proofs.Anchoring.{Searching, search_begins, search_literal, se
 use Rattle.engine.proofs.Bodies.{part_items_length, part_items_at}
 use Rattle.engine.proofs.Shifting.{no_code}
 use Rattle.engine.proofs.compile.anchor.Goals as goal
-use Rattle.engine.proofs.compile.anchor.Goals.{in-Literal, in-default, then-not-matches, else-not-matches}
+use Rattle.engine.proofs.compile.anchor.Goals.{in-Literal, in_default, then-not-matches, else-not-matches}
 
 pub loop-i-init : goal.loop-i-init
 loop-i-init c = (
@@ -29,7 +29,7 @@ loop-i-preserved c =
     elim c.if-not-matches.branch [
       | then-not-matches w ↦
           let none : (n : ℕ) → (get_or ps i (record { place = 0; part = part.Literal 0 })).part ≡ part.Literal n → ⊥ =
-          elim c.match-matches.branch [ in-Literal v ↦ absurd (both_ways _ w.if-not-matches.true v.matches-is) | in-default v ↦ v.in-default.not-Literal ] in
+          elim c.match-matches.branch [ in-Literal v ↦ absurd (both_ways _ w.if-not-matches.true v.matches-is) | in_default v ↦ v.in_default.not-Literal ] in
           subst (λ s. Next s c.if-not-matches.best) (sym w.start-is) (subst (λ old. Next (i + 1) old) (sym w.best-is) (
             omega arith,
             λ codes runs.
@@ -40,7 +40,7 @@ loop-i-preserved c =
           ))
       | else-not-matches w ↦
           let some : (n : ℕ) × ((get_or ps i (record { place = 0; part = part.Literal 0 })).part ≡ part.Literal n) =
-          elim c.match-matches.branch [ in-Literal v ↦ (_, v.in-Literal.is) | in-default v ↦ absurd (both_ways _ v.matches-is w.if-not-matches.false) ] in
+          elim c.match-matches.branch [ in-Literal v ↦ (_, v.in-Literal.is) | in_default v ↦ absurd (both_ways _ v.matches-is w.if-not-matches.false) ] in
           subst (λ s. Next s c.if-not-matches.best) (sym w.start-is) (subst (λ old. Next start old) (sym w.best-is) (
             omega arith,
             λ codes runs.

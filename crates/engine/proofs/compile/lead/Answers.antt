@@ -17,7 +17,7 @@ loop-placed-preserved c =
     let left : List PlacedPart → ℕ = λ ps. sum_least (part_items (vec_items c.args.pattern.now.codes) (vec_items c.args.pattern.now.runs) ps) in
     let ps = c.args.parts.now in
     let i = c.loop-placed.placed-index in
-    let more = c.in-ok-total.ensures in
+    let more = c.in_ok-total.ensures in
     ap (λ n. n + left (drop (i + 1) ps)) (more ∙ ap (λ n. c.loop-placed.total + n) c.least.ensures)
     ∙ add_assoc c.loop-placed.total _ (left (drop (i + 1) ps))
     ∙ ap (λ n. c.loop-placed.total + n) (sym (at_drop_more left ps i _ c.loop-placed-test.true))

@@ -4,7 +4,7 @@ use Rattle.engine.proofs.compile.least.Goals as goal
 
 pub returns-in-Group : goal.returns-in-Group
 returns-in-Group c =
-    least_group _ _ _ _ _ c.in-Group.is c.requires c.args.pattern.now.runs_within _ _ c.as-slice-runs.ensures.value (c.shortest.ensures (vec_items c.args.pattern.now.codes))
+    least_group _ _ _ _ _ c.in-Group.is c.requires c.args.pattern.now.runs_within _ _ c.as_slice-runs.ensures.value (c.shortest.ensures (vec_items c.args.pattern.now.codes))
 
 pub returns-in-Range : goal.returns-in-Range
 returns-in-Range c = least_range _ _ _ _ _ _ _ c.in-Range.is c.requires

@@ -6,11 +6,11 @@ use Rattle.engine.specs.Compiling.{part_items}
 use Rattle.engine.specs.declared.part.PlacedPart.{PlacedPart}
 use Rattle.engine.proofs.Shifting.{Towards, becomes_at_first, literal_next, other_next}
 use Rattle.engine.proofs.compile.shifts.Goals as goal
-use Rattle.engine.proofs.compile.shifts.Goals.{in-Literal, in-default}
+use Rattle.engine.proofs.compile.shifts.Goals.{in-Literal, in_default}
 
 pub loop-placed-init : goal.loop-placed-init
 loop-placed-init c =
-    let first = c.in-ok-distance.ensures in (
+    let first = c.in_ok-distance.ensures in (
       refl,
       omega arith,
       λ codes runs all. (all, becomes_at_first _ _ (omega arith)),
@@ -32,11 +32,11 @@ loop-placed-preserved c =
             on,
             literal_next c.loop-placed.table distance i ps _ c.loop-placed-test.true inv.1 inv.2 inv.0 w.in-Literal.code w.in-Literal.is,
           )
-      | in-default w ↦
+      | in_default w ↦
           subst Next (sym w.table-is) (
             inv.0,
             on,
-            other_next c.loop-placed.table distance i ps _ c.loop-placed-test.true inv.1 inv.2 w.in-default.not-Literal,
+            other_next c.loop-placed.table distance i ps _ c.loop-placed-test.true inv.1 inv.2 w.in_default.not-Literal,
           )
     ]
 

@@ -1,4 +1,4 @@
-use Rattle.std.proofs.Common.{◌≡◌, ◌+◌, ◌-◌, length, vec_items, sym, ap, subst, arith}
+use Rattle.std.proofs.Common.{◌≡◌, ◌+◌, length, vec_items, sym, ap, subst, arith}
 use lib.ListN.{length-map}
 use Rattle.engine.specs.Codes.{codes_of}
 use Rattle.engine.specs.Finding.{Start}
@@ -12,9 +12,9 @@ pub returns-then-not-starts : goal.returns-then-not-starts
 returns-then-not-starts g c a sides stands =
     let pattern = c.args.pattern.now in
     let mirror = c.args.mirror.now in
-    let xs = codes_of g.Element.Kind.alphabet (g.R.Reading.elements c.args.reading.now) in
-    let m = c.saturating-sub.result in
-    let n = c.saturating-sub-first.result in
+    let xs = codes_of g.R.Element.Kind.alphabet (g.R.Reading.elements c.args.reading.now) in
+    let m = c.saturating_sub.result in
+    let n = c.saturating_sub-first.result in
     let size : length (held mirror) ≡ length (vec_items mirror.parts) = length-map (vec_items mirror.parts) (placed_of (vec_items mirror.codes) (vec_items mirror.runs)) in
     through_no_start (held pattern) (held mirror) c.args.fragment.now a sides xs c.args.place stands c.args.from c.args.until
     c.reach-before.result m n (omega arith) (omega arith) (reached_held mirror m n _ _ c.reach-before.ensures)
@@ -25,14 +25,14 @@ returns-in-Some g c a sides stands =
     let pattern = c.args.pattern.now in
     let mirror = c.args.mirror.now in
     let f = c.args.fragment.now in
-    let xs = codes_of g.Element.Kind.alphabet (g.R.Reading.elements c.args.reading.now) in
-    let m = c.saturating-sub.result in
-    let n = c.saturating-sub-first.result in
-    let b = c.saturating-add-base.result in
+    let xs = codes_of g.R.Element.Kind.alphabet (g.R.Reading.elements c.args.reading.now) in
+    let m = c.saturating_sub.result in
+    let n = c.saturating_sub-first.result in
+    let b = c.saturating_add-base.result in
     let size : length (held mirror) ≡ length (vec_items mirror.parts) = length-map (vec_items mirror.parts) (placed_of (vec_items mirror.codes) (vec_items mirror.runs)) in
     let inside = anchor_inside (held pattern) (held mirror) f a sides xs c.args.place stands c.args.from c.args.until in
     let few = g.R.Reading.bounded c.args.reading.now in
-    let many = length-map (g.R.Reading.elements c.args.reading.now) g.Element.Kind.alphabet.code in
+    let many = length-map (g.R.Reading.elements c.args.reading.now) g.R.Element.Kind.alphabet.code in
     through_first (held pattern) (held mirror) f a sides xs c.args.place stands c.args.from c.args.until
     c.reach-before.result c.reach-behind.result m n b c.in-Some.far (omega arith) (omega arith) (omega arith)
     (reached_held mirror m n _ _ c.reach-before.ensures)
@@ -44,9 +44,9 @@ returns-in-None g c a sides stands =
     let pattern = c.args.pattern.now in
     let mirror = c.args.mirror.now in
     let f = c.args.fragment.now in
-    let xs = codes_of g.Element.Kind.alphabet (g.R.Reading.elements c.args.reading.now) in
+    let xs = codes_of g.R.Element.Kind.alphabet (g.R.Reading.elements c.args.reading.now) in
     let inside = anchor_inside (held pattern) (held mirror) f a sides xs c.args.place stands c.args.from c.args.until in
     let few = g.R.Reading.bounded c.args.reading.now in
-    let many = length-map (g.R.Reading.elements c.args.reading.now) g.Element.Kind.alphabet.code in
+    let many = length-map (g.R.Reading.elements c.args.reading.now) g.R.Element.Kind.alphabet.code in
     through_no_end (held pattern) (held mirror) f a sides xs c.args.place stands c.args.from c.args.until
-    c.reach-behind.result c.saturating-add-base.result (omega arith) (reached_held pattern (f.anchor + f.len) f.end _ _ c.reach-behind.ensures) c.in-None.ensures
+    c.reach-behind.result c.saturating_add-base.result (omega arith) (reached_held pattern (f.anchor + f.len) f.end _ _ c.reach-behind.ensures) c.in-None.ensures

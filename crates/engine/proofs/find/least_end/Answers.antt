@@ -9,72 +9,72 @@ use Rattle.engine.proofs.Anchored.{codes_stored, sides_of}
 use Rattle.engine.proofs.Least.{bounds_of, best_begins, none_begins, best_ends, next_on, next_before, best_next}
 use Rattle.engine.proofs.find.least_end.Goals as goal
 
-pub returns-then-not-is-bounded : goal.returns-then-not-is-bounded
-returns-then-not-is-bounded g c r f s =
+pub returns-then-not-is_bounded : goal.returns-then-not-is_bounded
+returns-then-not-is_bounded g c r f s =
     let pattern = c.args.pattern.now in
-    let xs = codes_of g.Element.Kind.alphabet (g.R.Reading.elements c.args.reading.now) in
+    let xs = codes_of g.R.Element.Kind.alphabet (g.R.Reading.elements c.args.reading.now) in
     let stored = length-map (vec_items pattern.parts) (placed_of (vec_items pattern.codes) (vec_items pattern.runs)) in
     let bounds = bounds_of r (held pattern) (held c.args.mirror.now) c.args.fragment.now f s c.args.from c.args.until xs (vec_len pattern.parts) (omega arith) in
-    absurd (both_ways _ c.if-not-is-bounded.true (c.is-bounded.ensures.1 bounds))
+    absurd (both_ways _ c.if-not-is_bounded.true (c.is_bounded.ensures.1 bounds))
 
-pub returns-in-err-place : goal.returns-in-err-place
-returns-in-err-place g c r f s =
+pub returns-in_err-place : goal.returns-in_err-place
+returns-in_err-place g c r f s =
     let all = g.R.Reading.elements c.args.reading.now in
     let few = g.R.Reading.bounded c.args.reading.now in
-    let many = length-map (g.R.Reading.elements c.args.reading.now) g.Element.Kind.alphabet.code in
-    c.from-residual.ensures
-    ∙ none_begins r (held c.args.pattern.now) (held c.args.mirror.now) c.args.fragment.now f s c.args.from c.args.until (codes_of g.Element.Kind.alphabet all) (omega arith) c.in-err-place.ensures
+    let many = length-map (g.R.Reading.elements c.args.reading.now) g.R.Element.Kind.alphabet.code in
+    c.from_residual.ensures
+    ∙ none_begins r (held c.args.pattern.now) (held c.args.mirror.now) c.args.fragment.now f s c.args.from c.args.until (codes_of g.R.Element.Kind.alphabet all) (omega arith) c.in_err-place.ensures
 
 pub loop-fit-init : goal.loop-fit-init
 loop-fit-init g c r f s =
     let few = g.R.Reading.bounded c.args.reading.now in
-    let many = length-map (g.R.Reading.elements c.args.reading.now) g.Element.Kind.alphabet.code in
+    let many = length-map (g.R.Reading.elements c.args.reading.now) g.R.Element.Kind.alphabet.code in
     best_begins r (held c.args.pattern.now) (held c.args.mirror.now) c.args.fragment.now f s c.args.from c.args.until
-    (codes_of g.Element.Kind.alphabet (g.R.Reading.elements c.args.reading.now)) c.in-ok-place.place c.last-place-last.result c.in-ok-place.ensures (omega arith) c.last-place-last.ensures
+    (codes_of g.R.Element.Kind.alphabet (g.R.Reading.elements c.args.reading.now)) c.in_ok-place.place c.last_place-last.result c.in_ok-place.ensures (omega arith) c.last_place-last.ensures
 
 pub returns-then-fit-place : goal.returns-then-fit-place
 returns-then-fit-place g c r f s =
     let pattern = c.args.pattern.now in
     let mirror = c.args.mirror.now in
     let fragment = c.args.fragment.now in
-    let xs = codes_of g.Element.Kind.alphabet (g.R.Reading.elements c.args.reading.now) in
-    let codes = c.literal-codes-len.ensures.codes (vec_items pattern.codes) (vec_items pattern.runs)
-    ∙ codes_stored r (held pattern) (held mirror) fragment f s (vec_items pattern.codes) (vec_items pattern.runs) (vec_items pattern.parts) c.as-slice.result.now refl c.as-slice.ensures.value in
-    let on = next_on r (held pattern) (held mirror) fragment f s c.args.from c.args.until xs _ codes c.loop-fit.place c.loop-fit.last c.next-fit.result c.next-fit.ensures c.in-Some.fit c.in-Some.is in
+    let xs = codes_of g.R.Element.Kind.alphabet (g.R.Reading.elements c.args.reading.now) in
+    let codes = c.literal_codes-len.ensures.codes (vec_items pattern.codes) (vec_items pattern.runs)
+    ∙ codes_stored r (held pattern) (held mirror) fragment f s (vec_items pattern.codes) (vec_items pattern.runs) (vec_items pattern.parts) c.as_slice.result.now refl c.as_slice.ensures.value in
+    let on = next_on r (held pattern) (held mirror) fragment f s c.args.from c.args.until xs _ codes c.loop-fit.place c.loop-fit.last c.next_fit.result c.next_fit.ensures c.in-Some.fit c.in-Some.is in
     absurd (omega arith)
 
-pub returns-in-err-place-2 : goal.returns-in-err-place-2
-returns-in-err-place-2 g c r f s =
+pub returns-in_err-place-2 : goal.returns-in_err-place-2
+returns-in_err-place-2 g c r f s =
     let pattern = c.args.pattern.now in
     let mirror = c.args.mirror.now in
     let fragment = c.args.fragment.now in
-    let xs = codes_of g.Element.Kind.alphabet (g.R.Reading.elements c.args.reading.now) in
-    let codes = c.literal-codes-len.ensures.codes (vec_items pattern.codes) (vec_items pattern.runs)
-    ∙ codes_stored r (held pattern) (held mirror) fragment f s (vec_items pattern.codes) (vec_items pattern.runs) (vec_items pattern.parts) c.as-slice.result.now refl c.as-slice.ensures.value in
+    let xs = codes_of g.R.Element.Kind.alphabet (g.R.Reading.elements c.args.reading.now) in
+    let codes = c.literal_codes-len.ensures.codes (vec_items pattern.codes) (vec_items pattern.runs)
+    ∙ codes_stored r (held pattern) (held mirror) fragment f s (vec_items pattern.codes) (vec_items pattern.runs) (vec_items pattern.parts) c.as_slice.result.now refl c.as_slice.ensures.value in
     let few = g.R.Reading.bounded c.args.reading.now in
-    let many = length-map (g.R.Reading.elements c.args.reading.now) g.Element.Kind.alphabet.code in
-    let before = next_before r (held pattern) (held mirror) fragment f s c.args.from c.args.until xs _ codes c.loop-fit.place c.loop-fit.last c.next-fit.result c.next-fit.ensures c.in-Some.fit c.in-Some.is (omega arith) in
-    absurd (omega (arith, c.in-err-place-2.ensures))
+    let many = length-map (g.R.Reading.elements c.args.reading.now) g.R.Element.Kind.alphabet.code in
+    let before = next_before r (held pattern) (held mirror) fragment f s c.args.from c.args.until xs _ codes c.loop-fit.place c.loop-fit.last c.next_fit.result c.next_fit.ensures c.in-Some.fit c.in-Some.is (omega arith) in
+    absurd (omega (arith, c.in_err-place-2.ensures))
 
 pub loop-fit-preserved : goal.loop-fit-preserved
 loop-fit-preserved g c r f s =
     let pattern = c.args.pattern.now in
     let mirror = c.args.mirror.now in
     let fragment = c.args.fragment.now in
-    let xs = codes_of g.Element.Kind.alphabet (g.R.Reading.elements c.args.reading.now) in
-    let codes = c.literal-codes-len.ensures.codes (vec_items pattern.codes) (vec_items pattern.runs)
-    ∙ codes_stored r (held pattern) (held mirror) fragment f s (vec_items pattern.codes) (vec_items pattern.runs) (vec_items pattern.parts) c.as-slice.result.now refl c.as-slice.ensures.value in
-    best_next r (held pattern) (held mirror) fragment f s c.args.from c.args.until xs _ codes c.loop-fit.place c.loop-fit.last c.next-fit.result c.next-fit.ensures
-    c.in-Some.fit c.in-Some.is c.loop-fit.best c.end-through.result c.smaller-best.result c.in-ok-place-2.place c.last-useful-last.result
-    (λ y. c.end-through.ensures (anchor r (bodies f.body)) (sides_of r (held pattern) (held mirror) fragment f s) y)
-    c.smaller-best.ensures c.in-ok-place-2.ensures.1 c.last-useful-last.ensures (c.loop-fit.invariant r f s)
+    let xs = codes_of g.R.Element.Kind.alphabet (g.R.Reading.elements c.args.reading.now) in
+    let codes = c.literal_codes-len.ensures.codes (vec_items pattern.codes) (vec_items pattern.runs)
+    ∙ codes_stored r (held pattern) (held mirror) fragment f s (vec_items pattern.codes) (vec_items pattern.runs) (vec_items pattern.parts) c.as_slice.result.now refl c.as_slice.ensures.value in
+    best_next r (held pattern) (held mirror) fragment f s c.args.from c.args.until xs _ codes c.loop-fit.place c.loop-fit.last c.next_fit.result c.next_fit.ensures
+    c.in-Some.fit c.in-Some.is c.loop-fit.best c.end_through.result c.smaller-best.result c.in_ok-place-2.place c.last_useful-last.result
+    (λ y. c.end_through.ensures (anchor r (bodies f.body)) (sides_of r (held pattern) (held mirror) fragment f s) y)
+    c.smaller-best.ensures c.in_ok-place-2.ensures.1 c.last_useful-last.ensures (c.loop-fit.invariant r f s)
 
 pub returns : goal.returns
 returns g c r f s =
     let pattern = c.args.pattern.now in
     let mirror = c.args.mirror.now in
     let fragment = c.args.fragment.now in
-    let xs = codes_of g.Element.Kind.alphabet (g.R.Reading.elements c.args.reading.now) in
-    let codes = c.literal-codes-len.ensures.codes (vec_items pattern.codes) (vec_items pattern.runs)
-    ∙ codes_stored r (held pattern) (held mirror) fragment f s (vec_items pattern.codes) (vec_items pattern.runs) (vec_items pattern.parts) c.as-slice.result.now refl c.as-slice.ensures.value in
-    best_ends r (held pattern) (held mirror) fragment f s c.args.from c.args.until xs _ codes c.loop-fit.place c.loop-fit.last c.next-fit.result c.next-fit.ensures c.loop-fit.best c.in-default.is (c.loop-fit.invariant r f s)
+    let xs = codes_of g.R.Element.Kind.alphabet (g.R.Reading.elements c.args.reading.now) in
+    let codes = c.literal_codes-len.ensures.codes (vec_items pattern.codes) (vec_items pattern.runs)
+    ∙ codes_stored r (held pattern) (held mirror) fragment f s (vec_items pattern.codes) (vec_items pattern.runs) (vec_items pattern.parts) c.as_slice.result.now refl c.as_slice.ensures.value in
+    best_ends r (held pattern) (held mirror) fragment f s c.args.from c.args.until xs _ codes c.loop-fit.place c.loop-fit.last c.next_fit.result c.next_fit.ensures c.loop-fit.best c.in_default.is (c.loop-fit.invariant r f s)

@@ -12,7 +12,7 @@ use Rattle.engine.proofs.find.least_end.Given as goal
 abbrev pub invariant-loop-fit : goal.invariant-loop-fit
 invariant-loop-fit g l =
     (r : Reference) (f : spec.Fragment) → Searched r (held l.pattern) (held l.mirror) l.fragment f
-    → Best (anchor r (bodies f.body)) l.from l.until (codes_of g.Element.Kind.alphabet (g.R.Reading.elements l.reading)) l.place l.last l.best
+    → Best (anchor r (bodies f.body)) l.from l.until (codes_of g.R.Element.Kind.alphabet (g.R.Reading.elements l.reading)) l.place l.last l.best
 
 -- how many places are left
 abbrev pub decreases-loop-fit : goal.decreases-loop-fit

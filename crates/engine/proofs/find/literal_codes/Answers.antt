@@ -5,7 +5,7 @@ use Rattle.engine.specs.Compiling.{part_items}
 use Rattle.engine.specs.declared.run.Run.{Run}
 use Rattle.engine.proofs.Anchored.{codes_literal, codes_other}
 use Rattle.engine.proofs.find.literal_codes.Goals as goal
-use Rattle.engine.proofs.find.literal_codes.Goals.{in-Literal, in-default}
+use Rattle.engine.proofs.find.literal_codes.Goals.{in-Literal, in_default}
 
 pub loop-placed-init : goal.loop-placed-init
 loop-placed-init c = (refl, omega arith, λ codes runs. refl)
@@ -29,11 +29,11 @@ loop-placed-preserved c =
                 ∙ ap (λ l. l ++ w.in-Literal.code ∷ []) (inv.2 codes runs)
                 ∙ sym (codes_literal codes runs ps i _ inside w.in-Literal.code w.in-Literal.is),
           ))
-      | in-default w ↦
+      | in_default w ↦
           subst (λ t. Next t c.match-placed.len) (sym w.codes-is) (subst (Next table) (sym w.len-is) (
             inv.0,
             omega (arith, inv.1),
-            λ codes runs. inv.2 codes runs ∙ sym (codes_other codes runs ps i _ inside w.in-default.not-Literal),
+            λ codes runs. inv.2 codes runs ∙ sym (codes_other codes runs ps i _ inside w.in_default.not-Literal),
           ))
     ]
 

@@ -3,15 +3,15 @@ use Rattle.std.proofs.lemmas.Result.{MatchResult-weaker}
 use Rattle.engine.proofs.Gaps.{no_least, least_stops, one_number, dash_completes, dash_stops}
 use Rattle.engine.proofs.lexer.gap.Goals as goal
 
-pub returns-in-default : goal.returns-in-default
-returns-in-default g c = no_least g.K.Kind.alphabet c.args.text.now c.args.place c.in-default.ensures
+pub returns-in_default : goal.returns-in_default
+returns-in_default g c = no_least g.K.Kind.alphabet c.args.text.now c.args.place c.in_default.ensures
 
 pub returns-then-stands : goal.returns-then-stands
 returns-then-stands g c =
     let a = g.K.Kind.alphabet in
     let t = c.args.text.now in
     let found = c.in-Some.ensures in
-    MatchResult-weaker c.upper-end.result c.upper-end.ensures
+    MatchResult-weaker c.upper_end.result c.upper_end.ensures
     (λ x h. dash_completes a t c.args.place _ found _ _ (sym c.if-stands.ensures) h)
     (λ at h. dash_stops a t c.args.place _ found at (sym c.if-stands.ensures) h)
 

@@ -17,23 +17,23 @@ returns-in-Question-2 g c =
 pub returns-in-Star : goal.returns-in-Star
 returns-in-Star g c = (star_reads g.K.Kind.alphabet c.args.text.now c.args.place c.args.expects c.requires _ refl refl (sym c.in-Star.ensures), tt)
 
-pub returns-in-err-gap : goal.returns-in-err-gap
-returns-in-err-gap g c =
-    let p = err_from_is_err_and c.from-residual.result c.from-residual.ensures.1 in
-    rw (p.1, p.2) (brace_stops g.K.Kind.alphabet c.args.text.now c.args.place c.args.expects c.requires _ (sym c.in-Brace.ensures) c.in-err-gap.ensures)
+pub returns-in_err-gap-in-Brace : goal.returns-in_err-gap-in-Brace
+returns-in_err-gap-in-Brace g c =
+    let p = err_from_is_err_and c.from_residual.result c.from_residual.ensures.1 in
+    rw (p.1, p.2) (brace_stops g.K.Kind.alphabet c.args.text.now c.args.place c.args.expects c.requires _ (sym c.in-Brace.ensures) c.in_err-gap-in-Brace.ensures)
 
-pub returns-in-ok-gap : goal.returns-in-ok-gap
-returns-in-ok-gap g c = (brace_reads g.K.Kind.alphabet c.args.text.now c.args.place c.args.expects c.requires _ _ (sym c.in-Brace.ensures) c.in-ok-gap.ensures, tt)
+pub returns-in_ok-gap-in-Brace : goal.returns-in_ok-gap-in-Brace
+returns-in_ok-gap-in-Brace g c = (brace_reads g.K.Kind.alphabet c.args.text.now c.args.place c.args.expects c.requires _ _ (sym c.in-Brace.ensures) c.in_ok-gap-in-Brace.ensures, tt)
 
-pub returns-in-err-code : goal.returns-in-err-code
-returns-in-err-code g c =
-    let p = err_from_is_err_and c.from-residual-in-err-code.result c.from-residual-in-err-code.ensures.1 in
-    rw (p.1, p.2) (literal_stops g.K.Kind.alphabet c.args.text.now c.args.place c.args.expects c.requires _ (sym c.in-Pair.ensures) c.in-err-code.ensures)
+pub returns-in_err-code-in-Pair : goal.returns-in_err-code-in-Pair
+returns-in_err-code-in-Pair g c =
+    let p = err_from_is_err_and c.from_residual-in_err-code-in-Pair.result c.from_residual-in_err-code-in-Pair.ensures.1 in
+    rw (p.1, p.2) (literal_stops g.K.Kind.alphabet c.args.text.now c.args.place c.args.expects c.requires _ (sym c.in-Pair.ensures) c.in_err-code-in-Pair.ensures)
 
-pub returns-in-ok-code : goal.returns-in-ok-code
-returns-in-ok-code g c =
+pub returns-in_ok-code-in-Pair : goal.returns-in_ok-code-in-Pair
+returns-in_ok-code-in-Pair g c =
     let two : c.args.place + 2 - c.args.place ≡ 2 = omega arith in (
-      literal_reads g.K.Kind.alphabet c.args.text.now c.args.place c.args.expects c.requires _ _ _ (sym c.in-Pair.ensures) (c.type-inv.text (c.args.place + 1)).fits c.in-ok-code.ensures,
+      literal_reads g.K.Kind.alphabet c.args.text.now c.args.place c.args.expects c.requires _ _ _ (sym c.in-Pair.ensures) (c.type_inv.text (c.args.place + 1)).fits c.in_ok-code-in-Pair.ensures,
       (ap (λ n. take n (drop c.args.place c.args.text.now)) two, refl),
     )
 

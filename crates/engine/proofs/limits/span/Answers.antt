@@ -15,8 +15,8 @@ returns-in-Group c =
     let first = c.in-Group.first in
     let count : first + c.in-Group.count - first ≡ c.in-Group.count = omega arith in
     c.longest.ensures
-    ∙ ap (λ n. longest_run (take n (drop first c.as-slice.result.now))) count
-    ∙ ap (λ rs. longest_run (take c.in-Group.count (drop first rs))) c.as-slice.ensures.value
+    ∙ ap (λ n. longest_run (take n (drop first c.as_slice.result.now))) count
+    ∙ ap (λ rs. longest_run (take c.in-Group.count (drop first rs))) c.as_slice.ensures.value
     ∙ sym (longest_length codes c.in-Group.count (drop first runs) (runs_within_drop codes first runs p.runs_within))
     ∙ ap (λ q. span (item_of codes runs q)) (sym c.in-Group.is)
 

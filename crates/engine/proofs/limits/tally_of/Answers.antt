@@ -12,40 +12,40 @@ use Rattle.engine.proofs.limits.tally_of.Goals as goal
 pub loop-part-init : goal.loop-part-init
 loop-part-init c =
     let p = c.args.pattern.now in
-    (ap (λ ps. tallied initial (items (vec_items p.codes) (vec_items p.runs) ps)) c.as-slice-part-items.ensures.value, omega arith)
+    (ap (λ ps. tallied initial (items (vec_items p.codes) (vec_items p.runs) ps)) c.as_slice-part-items.ensures.value, omega arith)
 
-pub with-item-tally-requires : goal.with-item-tally-requires
-with-item-tally-requires c =
+pub with_item-tally-requires : goal.with_item-tally-requires
+with_item-tally-requires c =
     let p = c.args.pattern.now in
-    let parts = c.as-slice-part-items.result.now in
-    let within = subst (λ ps. all_parts_within (vec_items p.codes) (vec_items p.runs) ps ≡ true) (sym c.as-slice-part-items.ensures.value) p.parts_within in
+    let parts = c.as_slice-part-items.result.now in
+    let within = subst (λ ps. all_parts_within (vec_items p.codes) (vec_items p.runs) ps ≡ true) (sym c.as_slice-part-items.ensures.value) p.parts_within in
     record {
-      ended = omega (arith, c.loop-part.invariant.1, c.as-slice-part-items.ensures.len, p.parts.ok.1, p.parts.small);
+      ended = omega (arith, c.loop-part.invariant.1, c.as_slice-part-items.ensures.len, p.parts.ok.1, p.parts.small);
       inside = part_within_at (vec_items p.codes) (vec_items p.runs) parts c.loop-part.part-index _ within c.loop-part-test.true;
     }
 
 pub loop-part-preserved : goal.loop-part-preserved
 loop-part-preserved c =
     let p = c.args.pattern.now in
-    let parts = c.as-slice-part-items.result.now in
+    let parts = c.as_slice-part-items.result.now in
     let i = c.loop-part.part-index in
     let on : Tally → List PlacedPart → Tally = λ t ps. tallied t (items (vec_items p.codes) (vec_items p.runs) ps) in
     let first : PlacedPart = record { place = 0; part = Literal 0 } in
     let q = placed_of (vec_items p.codes) (vec_items p.runs) (get_or parts i first) in (
-      ap (λ t. on t (drop (i + 1) parts)) c.with-item-tally.ensures
+      ap (λ t. on t (drop (i + 1) parts)) c.with_item-tally.ensures
           ∙ sym (at_drop_more (on c.loop-part.tally) parts i first c.loop-part-test.true)
           ∙ c.loop-part.invariant.0,
-      omega (arith, with_item_ended c.loop-part.tally q, ap (λ t. t.ended) c.with-item-tally.ensures, c.loop-part.invariant.1),
+      omega (arith, with_item_ended c.loop-part.tally q, ap (λ t. t.ended) c.with_item-tally.ensures, c.loop-part.invariant.1),
     )
 
 pub close-requires : goal.close-requires
 close-requires c =
     let p = c.args.pattern.now in
-    omega (arith, c.loop-part.invariant.1, c.loop-part.auto.part-index-end, c.as-slice-part-items.ensures.len, p.parts.ok.1, p.parts.small)
+    omega (arith, c.loop-part.invariant.1, c.loop-part.auto.part-index-end, c.as_slice-part-items.ensures.len, p.parts.ok.1, p.parts.small)
 
 pub returns : goal.returns
 returns c =
     let p = c.args.pattern.now in
-    let parts = c.as-slice-part-items.result.now in
+    let parts = c.as_slice-part-items.result.now in
     let on : List PlacedPart → Tally = λ ps. tallied c.loop-part.tally (items (vec_items p.codes) (vec_items p.runs) ps) in
     c.close.ensures ∙ ap closed (sym (at_drop_all on parts c.loop-part.part-index c.loop-part-test.false) ∙ c.loop-part.invariant.0)

@@ -7,5 +7,5 @@ use Rattle.engine.proofs.limits.tally_of.Given as goal
 -- the parts that are left give what all give
 abbrev pub invariant-loop-part : goal.invariant-loop-part
 invariant-loop-part l =
-    (tallied l.tally (items (vec_items l.pattern.codes) (vec_items l.pattern.runs) (drop l.part-index l.part_items)) ≡ tallied initial (held l.pattern))
+    (tallied l.tally (items (vec_items l.pattern.codes) (vec_items l.pattern.runs) (drop l.part-index l.part-items)) ≡ tallied initial (held l.pattern))
     × (l.tally.ended ≤ l.part-index)

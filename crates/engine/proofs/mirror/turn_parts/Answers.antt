@@ -1,4 +1,4 @@
-use Rattle.std.proofs.Common.{◌≡◌, List, ◌++◌, map, length, get_or, take, drop, set, sym, refl, ap, ◌∙◌, append-nil, arith, take_all}
+use Rattle.std.proofs.Common.{◌≡◌, ◌++◌, map, get_or, take, drop, set, refl, ap, ◌∙◌, append-nil, arith, take_all}
 use Rattle.std.proofs.lemmas.List.Edits.{map_over_more}
 use Rattle.std.proofs.lemmas.List.{drop_all, get_or_default, with_items_is}
 use Rattle.engine.specs.Turned.{turned_placed}
@@ -11,7 +11,7 @@ loop-placed-init c = refl
 
 pub loop-placed-preserved : goal.loop-placed-preserved
 loop-placed-preserved c =
-    let all = c.deref-mut-placed-items.result.now in
+    let all = c.deref_mut-placed-items.result.now in
     let now = c.loop-placed.placed-items in
     let i = c.loop-placed.placed-index in
     let x : PlacedPart = get_or now i (record { place = 0; part = part.Literal 0 }) in
@@ -19,7 +19,7 @@ loop-placed-preserved c =
 
 pub returns : goal.returns
 returns c =
-    let all = c.deref-mut-placed-items.result.now in
+    let all = c.deref_mut-placed-items.result.now in
     let f = turned_placed c.args.total in
     let done : take c.loop-placed.placed-index all ≡ all = take_all c.loop-placed.placed-index all (omega arith) in
     let none = drop_all c.loop-placed.placed-index all (omega arith) in
@@ -28,4 +28,4 @@ returns c =
     ∙ ap (λ l. map f l ++ drop c.loop-placed.placed-index all) done
     ∙ ap (λ l. map f all ++ l) none
     ∙ append-nil (map f all)
-    ∙ ap (map f) c.deref-mut-placed-items.ensures.value
+    ∙ ap (map f) c.deref_mut-placed-items.ensures.value

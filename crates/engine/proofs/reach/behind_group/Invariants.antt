@@ -8,4 +8,4 @@ use Rattle.engine.proofs.reach.behind_group.Given as goal
 abbrev pub invariant-loop-run : goal.invariant-loop-run
 invariant-loop-run g l =
     Stepped (group (map (run_codes (vec_items l.pattern.codes)) (take l.run-index l.runs))) l.row
-    (seen (map g.Element.Kind.alphabet.code (g.R.Reading.elements l.view.reading.now)) l.view.base l.view.back) l.all
+    (seen (map g.R.Element.Kind.alphabet.code (g.R.Reading.elements l.view.reading.now)) l.view.base l.view.back) l.all

@@ -9,4 +9,4 @@ use Rattle.engine.proofs.reach.reach.Given as goal
 abbrev pub invariant-loop-placed : goal.invariant-loop-placed
 invariant-loop-placed g l =
     RowOf (bodies (items (vec_items l.pattern.codes) (vec_items l.pattern.runs) (take l.placed-index (take (l.to - l.from) (drop l.from (vec_items l.pattern.parts))))))
-    (seen (map g.Element.Kind.alphabet.code (g.R.Reading.elements l.view.reading.now)) l.view.base l.view.back) l.row
+    (seen (map g.R.Element.Kind.alphabet.code (g.R.Reading.elements l.view.reading.now)) l.view.base l.view.back) l.row

@@ -24,22 +24,22 @@ returns-in-Err g c =
     let refused = stopped a t l.pattern l.context l.from l.lexer.place l.invariant.2 at stops in
     inr (refused ∙ ap Err (sym c.refusal.ensures.place), c.refusal.ensures.cause, c.refusal.ensures.sequence)
 
-pub returns-then-may-end : goal.returns-then-may-end
-returns-then-may-end g c =
+pub returns-then-may_end : goal.returns-then-may_end
+returns-then-may_end g c =
     let a = g.K.Kind.alphabet in
     let t = c.args.text.now in
     let l = c.loop-next in
-    let end = lexed_end a l.invariant.0 c.expects.ensures l.lexer.place c.next.new.self.place c.in-default.is c.in-Ok.ensures.token in
-    whole a t l.pattern l.context l.from l.lexer.place l.invariant.2 end (sym c.if-may-end.ensures)
+    let end = lexed_end a l.invariant.0 c.expects.ensures l.lexer.place c.next.new.self.place c.in_default.is c.in-Ok.ensures.token in
+    whole a t l.pattern l.context l.from l.lexer.place l.invariant.2 end (sym c.if-may_end.ensures)
 
-pub returns-else-may-end : goal.returns-else-may-end
-returns-else-may-end g c =
+pub returns-else-may_end : goal.returns-else-may_end
+returns-else-may_end g c =
     let a = g.K.Kind.alphabet in
     let t = c.args.text.now in
     let l = c.loop-next in
-    let end = lexed_end a l.invariant.0 c.expects.ensures l.lexer.place c.next.new.self.place c.in-default.is c.in-Ok.ensures.token in
-    let refused = broken_off a t l.pattern l.context l.from l.lexer.place l.invariant.2 end (sym c.if-may-end.ensures) in
-    inr (refused ∙ ap Err (sym (c.refusal-else-may-end.ensures.place ∙ c.place-place.ensures)), c.refusal-else-may-end.ensures.cause, c.refusal-else-may-end.ensures.sequence)
+    let end = lexed_end a l.invariant.0 c.expects.ensures l.lexer.place c.next.new.self.place c.in_default.is c.in-Ok.ensures.token in
+    let refused = broken_off a t l.pattern l.context l.from l.lexer.place l.invariant.2 end (sym c.if-may_end.ensures) in
+    inr (refused ∙ ap Err (sym (c.refusal-else-may_end.ensures.place ∙ c.place-place.ensures)), c.refusal-else-may_end.ensures.cause, c.refusal-else-may_end.ensures.sequence)
 
 pub advance-requires : goal.advance-requires
 advance-requires g c = c.loop-next.invariant.1
@@ -51,7 +51,7 @@ returns-in-Stuck g c =
     let l = c.loop-next in
     let later = c.next.new.self.place in
     let read = lexed_token a l.invariant.0 c.expects.ensures l.lexer.place later c.in-Some.is c.in-Ok.ensures.token in
-    let refused = stuck_there a t l.pattern l.context l.from l.lexer.place l.invariant.2 g.met.K.Kind.lawful c.in-Some.token later read c.advance.new.pattern c.in-ok-advance.field-0 c.in-ok-advance.ensures c.in-Stuck.is in
+    let refused = stuck_there a t l.pattern l.context l.from l.lexer.place l.invariant.2 g.met.K.Kind.lawful c.in-Some.token later read c.advance.new.pattern c.in_ok-advance.field-0 c.in_ok-advance.ensures c.in-Stuck.is in
     inr (refused ∙ ap Err (sym (c.refusal-in-Stuck.ensures.place ∙ c.place-place.ensures)), c.refusal-in-Stuck.ensures.cause, c.refusal-in-Stuck.ensures.sequence)
 
 pub loop-next-smaller-in-Within : goal.loop-next-smaller-in-Within
@@ -69,11 +69,11 @@ loop-next-preserved-in-Within g c =
     let l = c.loop-next in
     let later = c.next.new.self.place in
     let after = c.advance.new.pattern in
-    let to = c.in-ok-advance.ensures in
+    let to = c.in_ok-advance.ensures in
     let read = lexed_token a l.invariant.0 c.expects.ensures l.lexer.place later c.in-Some.is c.in-Ok.ensures.token in (
       c.next.ensures.same_text ∙ l.invariant.0,
       subst (StepLiesWithin (vec_items after.codes) (vec_items after.runs)) c.in-Within.is to.within,
-      goes_within a t l.pattern l.context l.from l.lexer.place l.invariant.2 g.met.K.Kind.lawful c.in-Some.token later read after c.in-ok-advance.field-0 to c.in-Within.later c.in-Within.is,
+      goes_within a t l.pattern l.context l.from l.lexer.place l.invariant.2 g.met.K.Kind.lawful c.in-Some.token later read after c.in_ok-advance.field-0 to c.in-Within.later c.in-Within.is,
     )
 
 pub loop-next-smaller : goal.loop-next-smaller
@@ -90,10 +90,10 @@ loop-next-preserved g c =
     let t = c.args.text.now in
     let l = c.loop-next in
     let later = c.next.new.self.place in
-    let last = c.push-part.new.self in
+    let last = c.push_part.new.self in
     let item = c.in-Complete.part in
     let read = lexed_token a l.invariant.0 c.expects.ensures l.lexer.place later c.in-Some.is c.in-Ok.ensures.token in
-    let so_far = completes a t l.pattern l.context l.from l.lexer.place l.invariant.2 g.met.K.Kind.lawful c.in-Some.token later read c.advance.new.pattern c.in-ok-advance.field-0 c.in-ok-advance.ensures item c.in-Complete.is last c.in-ok-push-part.ensures in (
+    let so_far = completes a t l.pattern l.context l.from l.lexer.place l.invariant.2 g.met.K.Kind.lawful c.in-Some.token later read c.advance.new.pattern c.in_ok-advance.field-0 c.in_ok-advance.ensures item c.in-Complete.is last c.in_ok-push_part-in-Complete.ensures in (
       c.next.ensures.same_text ∙ l.invariant.0,
       subst (ContextWithin last) (sym c.behind-context.ensures) (behind_within last item),
       subst (λ k. SoFar a t last k c.place-from.result later) (sym c.behind-context.ensures)

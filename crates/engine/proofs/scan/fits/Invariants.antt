@@ -6,4 +6,4 @@ use Rattle.engine.proofs.scan.fits.Given as goal
 abbrev pub invariant-loop-code : goal.invariant-loop-code
 invariant-loop-code g l =
     (l.at ≡ l.place + l.code-index) × (l.at ≤ length (g.R.Reading.elements l.reading))
-    × ((k : ℕ) → k < l.code-index → get_or (codes_of g.Element.Kind.alphabet (g.R.Reading.elements l.reading)) (l.place + k) 0 ≡ get_or l.anchor k 0)
+    × ((k : ℕ) → k < l.code-index → get_or (codes_of g.R.Element.Kind.alphabet (g.R.Reading.elements l.reading)) (l.place + k) 0 ≡ get_or l.anchor k 0)

@@ -6,7 +6,7 @@ use Rattle.engine.proofs.scan.next_fit.Given as goal
 -- no place before this one is missed
 abbrev pub invariant-loop-place : goal.invariant-loop-place
 invariant-loop-place g l =
-    let codes = codes_of g.Element.Kind.alphabet (g.R.Reading.elements l.reading) in
+    let codes = codes_of g.R.Element.Kind.alphabet (g.R.Reading.elements l.reading) in
     ShiftsOf l.shifts l.anchor → first_fit l.anchor codes l.place ≡ first_fit l.anchor codes l.from
 
 abbrev pub decreases-loop-place : goal.decreases-loop-place

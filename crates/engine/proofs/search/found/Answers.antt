@@ -11,36 +11,36 @@ use Rattle.engine.proofs.search.found.Goals as goal
 pub loop-fragment-init : goal.loop-fragment-init
 loop-fragment-init g c ref gs h = refl
 
-pub returns-in-default : goal.returns-in-default
-returns-in-default g c ref gs h =
+pub returns-in_default : goal.returns-in_default
+returns-in_default g c ref gs h =
     let sequence = c.args.sequence.now in
     let elements = g.R.Reading.elements c.args.reading.now in
-    let xs = codes_of g.Element.Kind.alphabet elements in
+    let xs = codes_of g.R.Element.Kind.alphabet elements in
     let size : length xs ≡ length elements = simp length-map in
     let few : length xs < 2 ^ 64 = omega (arith, g.R.Reading.bounded c.args.reading.now) in
-    let all = subst (λ fs. AllSearched ref (held sequence.pattern) (held sequence.mirror) fs gs) (sym c.as-slice-fragment-items.ensures.value) h in
-    come_past (held sequence.pattern) (held sequence.mirror) c.as-slice-fragment-items.result.now c.args.until xs c.loop-fragment.fragment-index c.loop-fragment.end c.loop-fragment.latest c.loop-fragment.invariant _ c.loop-fragment-test.true c.in-default.ensures few ref gs all
+    let all = subst (λ fs. AllSearched ref (held sequence.pattern) (held sequence.mirror) fs gs) (sym c.as_slice-fragment-items.ensures.value) h in
+    come_past (held sequence.pattern) (held sequence.mirror) c.as_slice-fragment-items.result.now c.args.until xs c.loop-fragment.fragment-index c.loop-fragment.end c.loop-fragment.latest c.loop-fragment.invariant _ c.loop-fragment-test.true c.in_default.ensures few ref gs all
 
-pub returns-in-default-least-end : goal.returns-in-default-least-end
-returns-in-default-least-end g c ref gs h =
+pub returns-in_default-least_end : goal.returns-in_default-least_end
+returns-in_default-least_end g c ref gs h =
     let sequence = c.args.sequence.now in
-    let xs = codes_of g.Element.Kind.alphabet (g.R.Reading.elements c.args.reading.now) in
+    let xs = codes_of g.R.Element.Kind.alphabet (g.R.Reading.elements c.args.reading.now) in
     let from = c.in-Some.ensures in
-    let all = subst (λ fs. AllSearched ref (held sequence.pattern) (held sequence.mirror) fs gs) (sym c.as-slice-fragment-items.ensures.value) h in
-    come_none (held sequence.pattern) (held sequence.mirror) c.as-slice-fragment-items.result.now c.args.until xs c.loop-fragment.fragment-index c.loop-fragment.end c.loop-fragment.latest c.loop-fragment.invariant _ c.loop-fragment-test.true
-    (λ ref g' s. sym c.in-default-least-end.is ∙ c.least_end.ensures ref g' s ∙ ap (λ n. least_end (bodies g'.body) n c.loop-fragment.latest xs) from.1) ref gs all
+    let all = subst (λ fs. AllSearched ref (held sequence.pattern) (held sequence.mirror) fs gs) (sym c.as_slice-fragment-items.ensures.value) h in
+    come_none (held sequence.pattern) (held sequence.mirror) c.as_slice-fragment-items.result.now c.args.until xs c.loop-fragment.fragment-index c.loop-fragment.end c.loop-fragment.latest c.loop-fragment.invariant _ c.loop-fragment-test.true
+    (λ ref g' s. sym c.in_default-least_end.is ∙ c.least_end.ensures ref g' s ∙ ap (λ n. least_end (bodies g'.body) n c.loop-fragment.latest xs) from.1) ref gs all
 
 pub loop-fragment-preserved : goal.loop-fragment-preserved
 loop-fragment-preserved g c =
     let sequence = c.args.sequence.now in
-    let xs = codes_of g.Element.Kind.alphabet (g.R.Reading.elements c.args.reading.now) in
+    let xs = codes_of g.R.Element.Kind.alphabet (g.R.Reading.elements c.args.reading.now) in
     let from = c.in-Some.ensures in
-    come_next (held sequence.pattern) (held sequence.mirror) c.as-slice-fragment-items.result.now c.args.until xs c.loop-fragment.fragment-index c.loop-fragment.end c.loop-fragment.latest c.loop-fragment.invariant _ c.in-Some-least-end.next c.loop-fragment-test.true
-    (λ ref g' s. sym c.in-Some-least-end.is ∙ c.least_end.ensures ref g' s ∙ ap (λ n. least_end (bodies g'.body) n c.loop-fragment.latest xs) from.1)
+    come_next (held sequence.pattern) (held sequence.mirror) c.as_slice-fragment-items.result.now c.args.until xs c.loop-fragment.fragment-index c.loop-fragment.end c.loop-fragment.latest c.loop-fragment.invariant _ c.in-Some-least_end.next c.loop-fragment-test.true
+    (λ ref g' s. sym c.in-Some-least_end.is ∙ c.least_end.ensures ref g' s ∙ ap (λ n. least_end (bodies g'.body) n c.loop-fragment.latest xs) from.1)
 
 pub returns : goal.returns
 returns g c ref gs h =
     let sequence = c.args.sequence.now in
-    let xs = codes_of g.Element.Kind.alphabet (g.R.Reading.elements c.args.reading.now) in
-    let all = subst (λ fs. AllSearched ref (held sequence.pattern) (held sequence.mirror) fs gs) (sym c.as-slice-fragment-items.ensures.value) h in
-    come_all (held sequence.pattern) (held sequence.mirror) c.as-slice-fragment-items.result.now c.args.until xs c.loop-fragment.fragment-index c.loop-fragment.end c.loop-fragment.latest c.loop-fragment.invariant (omega arith) ref gs all
+    let xs = codes_of g.R.Element.Kind.alphabet (g.R.Reading.elements c.args.reading.now) in
+    let all = subst (λ fs. AllSearched ref (held sequence.pattern) (held sequence.mirror) fs gs) (sym c.as_slice-fragment-items.ensures.value) h in
+    come_all (held sequence.pattern) (held sequence.mirror) c.as_slice-fragment-items.result.now c.args.until xs c.loop-fragment.fragment-index c.loop-fragment.end c.loop-fragment.latest c.loop-fragment.invariant (omega arith) ref gs all

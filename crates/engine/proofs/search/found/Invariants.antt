@@ -6,5 +6,5 @@ use Rattle.engine.proofs.search.found.Given as goal
 -- the search has come to this fragment
 abbrev pub invariant-loop-fragment : goal.invariant-loop-fragment
 invariant-loop-fragment g l =
-    let xs = codes_of g.Element.Kind.alphabet (g.R.Reading.elements l.reading) in
+    let xs = codes_of g.R.Element.Kind.alphabet (g.R.Reading.elements l.reading) in
     ComeTo (held l.sequence.pattern) (held l.sequence.mirror) l.fragment-items l.initial.latest xs l.fragment-index l.end l.latest

@@ -11,7 +11,7 @@ use Rattle.engine.proofs.search.hits.Goals as goal
 pub returns-in-Front : goal.returns-in-Front
 returns-in-Front g c =
     let s = c.args.sequence.now in
-    let xs = codes_of g.Element.Kind.alphabet (g.R.Reading.elements c.args.reading.now) in
+    let xs = codes_of g.R.Element.Kind.alphabet (g.R.Reading.elements c.args.reading.now) in
     let until : Some c.from.result ≡ until_in s.reference s.hi = ap Some c.from.ensures ∙ ap (λ r. until_in r s.hi) (sym c.in-Front.is) in
     let codes : xs ≡ codes_in s.reference xs = ap (λ r. codes_in r xs) (sym c.in-Front.is) in
     let decision =
@@ -22,9 +22,9 @@ returns-in-Front g c =
 pub returns-in-Back : goal.returns-in-Back
 returns-in-Back g c =
     let s = c.args.sequence.now in
-    let code = g.Element.Kind.alphabet.code in
+    let code = g.R.Element.Kind.alphabet.code in
     let elements = g.R.Reading.elements c.args.reading.now in
-    let xs = codes_of g.Element.Kind.alphabet elements in
+    let xs = codes_of g.R.Element.Kind.alphabet elements in
     let until : Some c.from.result ≡ until_in s.reference s.hi = ap Some c.from.ensures ∙ ap (λ r. until_in r s.hi) (sym c.in-Back.is) in
     let lent = ap (λ f. map code (reverse (g.R.Reading.elements f.reading.now))) c.new.ensures in
     let codes = lent ∙ map_reverse code elements ∙ ap (λ r. codes_in r xs) (sym c.in-Back.is) in
@@ -36,7 +36,7 @@ returns-in-Back g c =
 pub returns-in-Anywhere : goal.returns-in-Anywhere
 returns-in-Anywhere g c =
     let s = c.args.sequence.now in
-    let xs = codes_of g.Element.Kind.alphabet (g.R.Reading.elements c.args.reading.now) in
+    let xs = codes_of g.R.Element.Kind.alphabet (g.R.Reading.elements c.args.reading.now) in
     let until : None ≡ until_in s.reference s.hi = ap (λ r. until_in r s.hi) (sym c.in-Anywhere.is) in
     let codes : xs ≡ codes_in s.reference xs = ap (λ r. codes_in r xs) (sym c.in-Anywhere.is) in
     let decision =

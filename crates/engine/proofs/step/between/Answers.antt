@@ -17,9 +17,9 @@ returns-in-OpenGroup c p =
       within = (omega arith, omega arith);
     }
 
-pub returns-in-default : goal.returns-in-default
-returns-in-default c p = record {
-  does = sym (between_stuck p c.args.mark c.in-default.not-OpenGroup c.in-default.not-OpenRange);
+pub returns-in_default : goal.returns-in_default
+returns-in_default c p = record {
+  does = sym (between_stuck p c.args.mark c.in_default.not-OpenGroup c.in_default.not-OpenRange);
   items = refl;
   within = tt;
 }

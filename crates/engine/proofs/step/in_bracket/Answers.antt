@@ -15,5 +15,5 @@ returns-in-Except c =
       within = omega arith;
     }
 
-pub returns-in-default : goal.returns-in-default
-returns-in-default c = record { does = sym (bracket_stuck c.args.mark c.in-default.not-Except); items = refl; within = tt }
+pub returns-in_default : goal.returns-in_default
+returns-in_default c = record { does = sym (bracket_stuck c.args.mark c.in_default.not-Except); items = refl; within = tt }

@@ -20,17 +20,17 @@ returns-then-run-eq0 c =
       within = tt;
     }
 
-pub returns-in-ok-push-run : goal.returns-in-ok-push-run
-returns-in-ok-push-run c =
+pub returns-in_ok-push_run-in-Bar : goal.returns-in_ok-push_run-in-Bar
+returns-in_ok-push_run-in-Bar c =
     let codes = vec_items c.args.pattern.now.codes in
     let runs = vec_items c.args.pattern.now.runs in
-    let codes' = vec_items c.push-run.new.self.codes in
-    let runs' = vec_items c.push-run.new.self.runs in
-    let pushed = c.in-ok-push-run.ensures in
-    let some : 0 < length (drop c.args.start codes) = omega (arith, c.run-from-run.ensures.len) in
-    let from : c.len-in-Bar.result ≡ length codes' = c.len-in-Bar.ensures ∙ c.push-run.new.self.codes.ok.0 in
-    let longer = ap length pushed.runs ∙ length_push runs c.run-from-run.result in
-    let does = bar_does codes runs c.args.first c.args.start c.run-from-run.result c.requires.0 c.run-from-run.ensures.codes some codes' runs' pushed.codes pushed.runs c.len-in-Bar.result (omega arith) in
+    let codes' = vec_items c.push_run.new.self.codes in
+    let runs' = vec_items c.push_run.new.self.runs in
+    let pushed = c.in_ok-push_run-in-Bar.ensures in
+    let some : 0 < length (drop c.args.start codes) = omega (arith, c.run_from-run.ensures.len) in
+    let from : c.len-in-Bar.result ≡ length codes' = c.len-in-Bar.ensures ∙ c.push_run.new.self.codes.ok.0 in
+    let longer = ap length pushed.runs ∙ length_push runs c.run_from-run.result in
+    let does = bar_does codes runs c.args.first c.args.start c.run_from-run.result c.requires.0 c.run_from-run.ensures.codes some codes' runs' pushed.codes pushed.runs c.len-in-Bar.result (omega arith) in
     record {
       does = does ∙ sym (ap (λ m. next nameless (state_of codes runs (context.Group c.args.first c.args.start)) (character m)) c.in-Bar.is);
       items = pushed.items;
@@ -50,30 +50,30 @@ returns-in-CloseGroup c =
       within = tt;
     }
 
-pub returns-in-ok-push-run-2 : goal.returns-in-ok-push-run-2
-returns-in-ok-push-run-2 c =
+pub returns-in_ok-push_run-in-CloseGroup-2 : goal.returns-in_ok-push_run-in-CloseGroup-2
+returns-in_ok-push_run-in-CloseGroup-2 c =
     let codes = vec_items c.args.pattern.now.codes in
     let runs = vec_items c.args.pattern.now.runs in
-    let codes' = vec_items c.push-run-in-CloseGroup-2.new.self.codes in
-    let runs' = vec_items c.push-run-in-CloseGroup-2.new.self.runs in
-    let pushed = c.in-ok-push-run-2.ensures in
+    let codes' = vec_items c.push_run-in-CloseGroup-2.new.self.codes in
+    let runs' = vec_items c.push_run-in-CloseGroup-2.new.self.runs in
+    let pushed = c.in_ok-push_run-in-CloseGroup-2.ensures in
     let earlier = c.len.result - c.args.first in
-    let some : 0 < length (drop c.args.start codes) = omega (arith, c.run-from-run.ensures.len) in
+    let some : 0 < length (drop c.args.start codes) = omega (arith, c.run_from-run.ensures.len) in
     let all : c.len.result ≡ length runs = c.len.ensures ∙ c.args.pattern.now.runs.ok.0 in
     let counted : c.args.first + earlier ≡ length runs = omega (arith, c.requires.0) in
-    let does = close_does codes runs c.args.first c.args.start c.run-from-run.result c.requires.0 c.run-from-run.ensures.codes some codes' runs' pushed.codes pushed.runs earlier counted (omega arith) in
+    let does = close_does codes runs c.args.first c.args.start c.run_from-run.result c.requires.0 c.run_from-run.ensures.codes some codes' runs' pushed.codes pushed.runs earlier counted (omega arith) in
     record {
       does = does ∙ sym (ap (λ m. next nameless (state_of codes runs (context.Group c.args.first c.args.start)) (character m)) c.in-CloseGroup-2.is);
       items = pushed.items;
-      within = close_within codes runs c.args.first c.args.start c.run-from-run.result c.requires.0 c.run-from-run.ensures.codes some codes' runs' pushed.codes pushed.runs earlier counted;
+      within = close_within codes runs c.args.first c.args.start c.run_from-run.result c.requires.0 c.run_from-run.ensures.codes some codes' runs' pushed.codes pushed.runs earlier counted;
     }
 
-pub returns-in-default-2 : goal.returns-in-default-2
-returns-in-default-2 c =
+pub returns-in_default-2 : goal.returns-in_default-2
+returns-in_default-2 c =
     let codes = vec_items c.args.pattern.now.codes in
     let runs = vec_items c.args.pattern.now.runs in
     record {
-      does = sym (group_stuck (map (run_codes codes) (drop c.args.first runs)) (drop c.args.start codes) c.args.mark c.in-default-2.not-Bar c.in-default-2.not-CloseGroup);
+      does = sym (group_stuck (map (run_codes codes) (drop c.args.first runs)) (drop c.args.start codes) c.args.mark c.in_default-2.not-Bar c.in_default-2.not-CloseGroup);
       items = refl;
       within = tt;
     }

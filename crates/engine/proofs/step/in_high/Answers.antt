@@ -10,7 +10,7 @@ returns-then-high-eq0 c =
     let run = drop c.args.start codes in
     record { does = sym (high_unbegun c.args.inside (run_codes codes c.args.low) run c.args.mark (le-ltb 0 (length run) (omega arith))); items = refl; within = tt }
 
-pub returns-in-default-2 : goal.returns-in-default-2
-returns-in-default-2 c =
+pub returns-in_default-2 : goal.returns-in_default-2
+returns-in_default-2 c =
     let codes = vec_items c.args.pattern.now.codes in
-    record { does = sym (high_stuck c.args.inside (run_codes codes c.args.low) (drop c.args.start codes) c.args.mark c.in-default-2.not-CloseRange); items = refl; within = tt }
+    record { does = sym (high_stuck c.args.inside (run_codes codes c.args.low) (drop c.args.start codes) c.args.mark c.in_default-2.not-CloseRange); items = refl; within = tt }

@@ -11,10 +11,10 @@ pub returns : goal.returns
 returns c =
     let codes = vec_items c.args.pattern.now.codes in
     let runs = vec_items c.args.pattern.now.runs in
-    let codes' = vec_items c.push-code.new.self.codes in
-    let runs' = vec_items c.push-code.new.self.runs in
+    let codes' = vec_items c.push_code.new.self.codes in
+    let runs' = vec_items c.push_code.new.self.runs in
     let code = c.args.code in
-    let pushed = c.in-ok-push-code.ensures in
+    let pushed = c.in_ok-push_code.ensures in
     let within = c.args.pattern.now.runs_within in
     elim c.match-context.branch [
       | in-Bracket w ↦

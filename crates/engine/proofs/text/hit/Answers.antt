@@ -7,9 +7,9 @@ use Rattle.engine.proofs.text.hit.Goals as goal
 
 pub returns : goal.returns
 returns g c =
-    let a = g.Element.Kind.alphabet in
-    let s = c.in-ok-sequence.sequence in
-    let from = c.in-ok-sequence.ensures in
+    let a = g.R.Element.Kind.alphabet in
+    let s = c.in_ok-sequence.sequence in
+    let from = c.in_ok-sequence.ensures in
     let xs = codes_of a (g.R.Reading.elements c.args.reading.now) in
     let items = said_items a c.args.text.now c.args.reference c.args.lo c.args.hi s from in (
       from.items,

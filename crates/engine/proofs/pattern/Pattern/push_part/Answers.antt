@@ -6,16 +6,17 @@ use Rattle.engine.specs.declared.part.PlacedPart.{PlacedPart}
 use Rattle.engine.proofs.Growth.{parts_within_push}
 use Rattle.engine.proofs.pattern.Pattern.push_part.Goals as goal
 
-pub invariant-of-self : goal.invariant-of-self
-invariant-of-self c =
+pub invariant_of-self : goal.invariant_of-self
+invariant_of-self c =
     let codes = vec_items c.args.self.now.codes in
     let runs = vec_items c.args.self.now.runs in
     let parts = vec_items c.args.self.now.parts in
-    let Within : List PlacedPart → Type 0 = λ ps. (all_runs_within codes runs ≡ true) × ((all_parts_within codes runs ps ≡ true) × Unit {0}) in
-    subst Within (sym c.push.ensures.items)
+    let Within : List PlacedPart → Type 0 = λ ps. (all_runs_within codes runs ≡ true) × (all_parts_within codes runs ps ≡ true) in
+    let within = subst Within (sym c.push.ensures.items)
     (cond_both (is_ok c.push.result) (parts ++ c.args.part ∷ []) parts Within
-    (λ _. (c.args.self.now.runs_within, (parts_within_push codes runs parts c.args.part c.args.self.now.parts_within c.requires, tt)))
-    (λ _. (c.args.self.now.runs_within, (c.args.self.now.parts_within, tt))))
+    (λ _. (c.args.self.now.runs_within, parts_within_push codes runs parts c.args.part c.args.self.now.parts_within c.requires))
+    (λ _. (c.args.self.now.runs_within, c.args.self.now.parts_within))) in
+    record { runs_within = within.0; parts_within = within.1 }
 
 pub returns : goal.returns
 returns c =
@@ -25,5 +26,5 @@ returns c =
     record {
       codes = refl;
       runs = refl;
-      items = ap (items codes runs) c.in-ok-push.ensures.items ∙ map_push (placed_of codes runs) parts c.args.part;
+      items = ap (items codes runs) c.in_ok-push.ensures.items ∙ map_push (placed_of codes runs) parts c.args.part;
     }

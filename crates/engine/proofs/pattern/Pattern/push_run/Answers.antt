@@ -5,24 +5,25 @@ use Rattle.engine.specs.declared.run.Run.{Run}
 use Rattle.engine.proofs.Growth.{runs_within_push, parts_within_more_runs, items_more_runs}
 use Rattle.engine.proofs.pattern.Pattern.push_run.Goals as goal
 
-pub invariant-of-self : goal.invariant-of-self
-invariant-of-self c =
+pub invariant_of-self : goal.invariant_of-self
+invariant_of-self c =
     let codes = vec_items c.args.self.now.codes in
     let runs = vec_items c.args.self.now.runs in
     let parts = vec_items c.args.self.now.parts in
     let more : List Run = c.args.run ∷ [] in
-    let Within : List Run → Type 0 = λ rs. (all_runs_within codes rs ≡ true) × ((all_parts_within codes rs parts ≡ true) × Unit {0}) in
-    subst Within (sym c.push.ensures.items)
+    let Within : List Run → Type 0 = λ rs. (all_runs_within codes rs ≡ true) × (all_parts_within codes rs parts ≡ true) in
+    let within = subst Within (sym c.push.ensures.items)
     (cond_both (is_ok c.push.result) (runs ++ more) runs Within
-    (λ _. (runs_within_push codes runs c.args.run c.args.self.now.runs_within c.requires, (parts_within_more_runs codes runs more parts c.args.self.now.parts_within, tt)))
-    (λ _. (c.args.self.now.runs_within, (c.args.self.now.parts_within, tt))))
+    (λ _. (runs_within_push codes runs c.args.run c.args.self.now.runs_within c.requires, parts_within_more_runs codes runs more parts c.args.self.now.parts_within))
+    (λ _. (c.args.self.now.runs_within, c.args.self.now.parts_within))) in
+    record { runs_within = within.0; parts_within = within.1 }
 
 pub returns : goal.returns
 returns c =
     let codes = vec_items c.args.self.now.codes in
     let runs = vec_items c.args.self.now.runs in
     let parts = vec_items c.args.self.now.parts in
-    let pushed = c.in-ok-push.ensures.items in
+    let pushed = c.in_ok-push.ensures.items in
     record {
       codes = refl;
       runs = pushed;

@@ -1,4 +1,4 @@
-use Rattle.std.proofs.Common.{◌≡◌, ◌+◌, ◌-◌, cond, map, length, Some, None, sym, ap, ◌∙◌, arith}
+use Rattle.std.proofs.Common.{◌≡◌, ◌+◌, ◌-◌, cond, map, length, Some, sym, ap, ◌∙◌, arith}
 use Rattle.std.specs.Option.{option_map}
 use Rattle.std.proofs.lemmas.Option.{slice_get_past}
 use Rattle.engine.specs.Views.{seen}
@@ -9,9 +9,9 @@ use Rattle.engine.proofs.view.View.code.Goals.{then-self, else-self}
 pub returns-then-offset-len : goal.returns-then-offset-len
 returns-then-offset-len g c = sym (slice_get_past _ c.args.offset (omega arith))
 
-pub overflow-add-place : goal.overflow-add-place
-overflow-add-place g c =
-    let f = g.Element.Kind.alphabet.code in
+pub overflow_add-place : goal.overflow_add-place
+overflow_add-place g c =
+    let f = g.R.Element.Kind.alphabet.code in
     let base = c.args.self.now.base in
     let all = g.R.Reading.elements c.args.self.now.reading.now in
     let few = g.R.Reading.bounded c.args.self.now.reading.now in
@@ -20,7 +20,7 @@ overflow-add-place g c =
 
 pub returns-in-Some : goal.returns-in-Some
 returns-in-Some g c =
-    let f = g.Element.Kind.alphabet.code in
+    let f = g.R.Element.Kind.alphabet.code in
     let all = g.R.Reading.elements c.args.self.now.reading.now in
     let n = c.len-len.result in
     let base = c.args.self.now.base in
@@ -36,7 +36,7 @@ returns-in-Some g c =
 
 pub returns-in-None : goal.returns-in-None
 returns-in-None g c =
-    let f = g.Element.Kind.alphabet.code in
+    let f = g.R.Element.Kind.alphabet.code in
     let all = g.R.Reading.elements c.args.self.now.reading.now in
     let n = c.len-len.result in
     let base = c.args.self.now.base in

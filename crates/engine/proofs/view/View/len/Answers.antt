@@ -15,4 +15,4 @@ returns-else-self g c =
     let f = g.R.Element.Kind.alphabet.code in
     let base = c.args.self.now.base in
     let all = g.R.Reading.elements c.args.self.now.reading.now in
-    c.saturating-sub.ensures ∙ ap (λ n. n - base) c.len-all.ensures ∙ sym (length_on f all base) ∙ ap (λ b. length (seen (map f all) base b)) (sym c.if-self.false)
+    c.saturating_sub.ensures ∙ ap (λ n. n - base) c.len-all.ensures ∙ sym (length_on f all base) ∙ ap (λ b. length (seen (map f all) base b)) (sym c.if-self.false)

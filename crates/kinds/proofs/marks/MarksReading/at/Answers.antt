@@ -4,12 +4,12 @@ use Rattle.kinds.specs.AxleMarks.{mark_of}
 use Rattle.kinds.proofs.Places.{nth_map}
 use Rattle.kinds.proofs.marks.MarksReading.at.Goals as goal
 
-pub returns-in-err-byte : goal.returns-in-err-byte
-returns-in-err-byte g c =
+pub returns-in_err-byte : goal.returns-in_err-byte
+returns-in_err-byte g c =
     let all = g.R.Reading.elements c.args.self.now.bytes in
-    c.from-residual.ensures ∙ ap (option_map mark_of) (sym c.in-err-byte.was ∙ c.at.ensures) ∙ sym (nth_map mark_of all c.args.place)
+    c.from_residual.ensures ∙ ap (option_map mark_of) (sym c.in_err-byte.was ∙ c.at.ensures) ∙ sym (nth_map mark_of all c.args.place)
 
 pub returns : goal.returns
 returns g c =
     let all = g.R.Reading.elements c.args.self.now.bytes in
-    ap Some c.of-byte.ensures ∙ ap (option_map mark_of) (sym c.in-ok-byte.was ∙ c.at.ensures) ∙ sym (nth_map mark_of all c.args.place)
+    ap Some c.of_byte.ensures ∙ ap (option_map mark_of) (sym c.in_ok-byte.was ∙ c.at.ensures) ∙ sym (nth_map mark_of all c.args.place)

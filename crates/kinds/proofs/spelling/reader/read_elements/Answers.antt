@@ -1,4 +1,4 @@
-use Rattle.std.proofs.Common.{◌≡◌, ◌+◌, drop, is_ok, vec_items, sym, ap, ◌∙◌, arith}
+use Rattle.std.proofs.Common.{◌+◌, drop, is_ok, vec_items, sym, ap, ◌∙◌, arith}
 use Rattle.std.proofs.ResultArms.{chosen}
 use Rattle.kinds.specs.Spelling.{spelled_from}
 use Rattle.kinds.proofs.Spellings.{after, spelled_more, spelled_unnamed, spelled_end, spelled_odd}
@@ -10,7 +10,7 @@ returns-in-None g c other =
 
 pub loop-place-preserved : goal.loop-place-preserved
 loop-place-preserved g c =
-    let pushed = chosen _ _ _ _ c.push.ensures.items (ap is_ok c.in-ok-push.was) in
+    let pushed = chosen _ _ _ _ c.push.ensures.items (ap is_ok c.in_ok-push-in-Some.was) in
     let on = c.loop-place.place + 2 in
     let step = spelled_more g.K.Kind.alphabet (vec_items c.loop-place.items) c.args.text.now c.loop-place.place c.in-Some.x (omega arith) (sym c.named.ensures ∙ c.in-Some.is) in
     (omega arith, c.loop-place.invariant.1 ∙ step ∙ ap (λ l. after l (spelled_from g.K.Kind.alphabet on (drop on c.args.text.now))) (sym pushed))

@@ -10,17 +10,17 @@ work=$(mktemp -d)
 trap 'rm -rf "$work"' EXIT
 mkdir -p "$work/crates"
 cp -r "$top/crates/kinds" "$work/crates/kinds"
-rm -rf "$work/crates/kinds/must-fail"
+rm -rf "$work/crates/kinds/must-fail" "$work/crates/kinds/out"
 
 # program NAME: a program whose body of `main` comes from standard input
 program() {
     mkdir -p "$work/crates/$1/src"
     {
         cat <<'HEAD'
+#![tactic(auto)]
+
 use kinds::byte::Byte;
-use kinds::byte::kind::ByteKind;
 use kinds::held::Held;
-use kinds::held::HeldReading;
 use kinds::reading::Reading;
 
 fn handed_over<R: Reading + Drop>(reading: R) -> u32 {
@@ -54,10 +54,15 @@ BODY
 printf '%s\n' 'kinds:' 'handed_over_twice: kinds' 'written_under_reading: kinds' 'lawful: kinds' >"$work/crates.txt"
 cd "$work"
 
+# check NAME: proves a program; what the check says stands in the log
+check() {
+    (cd "crates/$1" && rt check) >"$work/log" 2>&1
+}
+
 passed=0
 # refused NAME ERROR: the front end turns NAME down, with ERROR
 refused() {
-    if rt dev "$1" >"$work/log" 2>&1; then
+    if check "$1"; then
         echo "borrow_rules: $1 was accepted, and $2 was expected"
         exit 1
     fi
@@ -70,7 +75,7 @@ refused() {
 }
 refused handed_over_twice borrow-e0382
 refused written_under_reading borrow-e0506
-if ! rt dev lawful >"$work/log" 2>&1; then
+if ! check lawful; then
     echo "borrow_rules: lawful was refused:"
     cat "$work/log"
     exit 1

@@ -185,3 +185,11 @@ module _ (codes xs : List ℕ) where
       go : (o : Option ℕ) → FirstFit codes xs place o → not_past last o ≡ None
       go None f = refl
       go (Some p) f = cond-false (leb p last) (Some p) None (lt-leb p last (omega (arith, f.0)))
+
+  -- no first place is past the end of the list
+  pub first_whole : (place last : ℕ) → length xs ≤ last → not_past last (first_fit codes xs place) ≡ first_fit codes xs place
+  first_whole place last h = go (first_fit codes xs place) (first_fit_exactly codes xs place)
+    where
+      go : (o : Option ℕ) → FirstFit codes xs place o → not_past last o ≡ o
+      go None f = refl
+      go (Some p) f = let s = (stands_decides codes xs p).0 f.1 in first_within p last (omega (arith, s.inside))

@@ -54,40 +54,40 @@ module _ (r : Reference) (items mirror : List Placed) where
 abbrev pub Least : List Placed → List Placed → Fragment → ℕ → Option ℕ → List ℕ → Option ℕ → Type 0
 Least items mirror f from until xs o = (ref : Reference) (g : spec.Fragment) → Searched ref items mirror f g → o ≡ least_end (bodies g.body) from until xs
 
--- the search has come to the i-th fragment
-abbrev pub ComeTo : List Placed → List Placed → List Fragment → Option ℕ → List ℕ → ℕ → ℕ → Option ℕ → Type 0
-ComeTo items mirror fs until xs i end latest =
-    (ref : Reference) (gs : List spec.Fragment) → AllSearched ref items mirror fs gs → found gs 0 until xs ≡ found (drop i gs) end latest xs
+-- the search behind a place has come to the i-th fragment
+abbrev pub ComeTo : List Placed → List Placed → List Fragment → ℕ → List ℕ → ℕ → ℕ → Type 0
+ComeTo items mirror fs at xs i end =
+    (ref : Reference) (gs : List spec.Fragment) → AllSearched ref items mirror fs gs → found gs at None xs ≡ found (drop i gs) end None xs
 
-module _ (items mirror : List Placed) (fs : List Fragment) (until : Option ℕ) (xs : List ℕ) (i end : ℕ) (latest : Option ℕ) (so_far : ComeTo items mirror fs until xs i end latest) where
+module _ (items mirror : List Placed) (fs : List Fragment) (at : ℕ) (xs : List ℕ) (i end : ℕ) (so_far : ComeTo items mirror fs at xs i end) where
   -- it ends where the fragment is not found
-  pub come_none : (d : Fragment) → i < length fs → Least items mirror (get_or fs i d) (end + (get_or fs i d).gap) latest xs None
-      → (ref : Reference) (gs : List spec.Fragment) → AllSearched ref items mirror fs gs → false ≡ found gs 0 until xs
+  pub come_none : (d : Fragment) → i < length fs → Least items mirror (get_or fs i d) (end + (get_or fs i d).gap) None xs None
+      → (ref : Reference) (gs : List spec.Fragment) → AllSearched ref items mirror fs gs → false ≡ found gs at None xs
   come_none d inside none ref gs h =
       let (g, there, s) = searched_at ref items mirror fs gs i d h inside in
       sym (
-      so_far ref gs h ∙ ap (λ l. found l end latest xs) there
-      ∙ found_not g (drop (suc i) gs) end latest xs (none ref g s ∙ ap (λ n. least_end (bodies g.body) (end + n) latest xs) s.holds.break)
+      so_far ref gs h ∙ ap (λ l. found l end None xs) there
+      ∙ found_not g (drop (suc i) gs) end None xs (none ref g s ∙ ap (λ n. least_end (bodies g.body) (end + n) None xs) s.holds.break)
       )
 
   -- it ends where the fragment could only start at a place that no list has
   pub come_past : (d : Fragment) → i < length fs → (end + (get_or fs i d).gap < 2 ^ 64 → ⊥) → length xs < 2 ^ 64
-      → (ref : Reference) (gs : List spec.Fragment) → AllSearched ref items mirror fs gs → false ≡ found gs 0 until xs
+      → (ref : Reference) (gs : List spec.Fragment) → AllSearched ref items mirror fs gs → false ≡ found gs at None xs
   come_past d inside far few =
       let from = end + (get_or fs i d).gap in
       let past : length xs < from = ⊎_elim (λ l. absurd (far l)) (λ l. omega arith) (cases_lt from (2 ^ 64)) in
-      come_none d inside (λ ref g s. least_end_past (bodies g.body) from latest xs past)
+      come_none d inside (λ ref g s. least_end_past (bodies g.body) from None xs past)
 
   -- it goes on where the fragment is found
-  pub come_next : (d : Fragment) (next : ℕ) → i < length fs → Least items mirror (get_or fs i d) (end + (get_or fs i d).gap) latest xs (Some next)
-      → ComeTo items mirror fs until xs (i + 1) next None
+  pub come_next : (d : Fragment) (next : ℕ) → i < length fs → Least items mirror (get_or fs i d) (end + (get_or fs i d).gap) None xs (Some next)
+      → ComeTo items mirror fs at xs (i + 1) next
   come_next d next inside some ref gs h =
       let (g, there, s) = searched_at ref items mirror fs gs i d h inside in
       let one : suc i ≡ i + 1 = omega arith in
-      so_far ref gs h ∙ ap (λ l. found l end latest xs) there
-      ∙ found_next g (drop (suc i) gs) end latest xs next (some ref g s ∙ ap (λ n. least_end (bodies g.body) (end + n) latest xs) s.holds.break)
+      so_far ref gs h ∙ ap (λ l. found l end None xs) there
+      ∙ found_next g (drop (suc i) gs) end None xs next (some ref g s ∙ ap (λ n. least_end (bodies g.body) (end + n) None xs) s.holds.break)
       ∙ ap (λ n. found (drop n gs) next None xs) one
 
   -- behind the last all are found
-  pub come_all : length fs ≤ i → (ref : Reference) (gs : List spec.Fragment) → AllSearched ref items mirror fs gs → true ≡ found gs 0 until xs
-  come_all past ref gs h = sym (so_far ref gs h ∙ ap (λ l. found l end latest xs) (searched_all ref items mirror fs gs i h past))
+  pub come_all : length fs ≤ i → (ref : Reference) (gs : List spec.Fragment) → AllSearched ref items mirror fs gs → true ≡ found gs at None xs
+  come_all past ref gs h = sym (so_far ref gs h ∙ ap (λ l. found l end None xs) (searched_all ref items mirror fs gs i h past))

@@ -1,11 +1,12 @@
 -- What the compiler makes can be searched for, and its search decides as the rule does.
-use Rattle.std.proofs.Common.{◌≡◌, ℕ, Bool, true, false, cond, List, [], ◌∷◌, reverse, Some, None, Ok, Err, Decides, Option, Result, sym, refl, ap, ◌∙◌, subst, arith}
+use Rattle.std.proofs.Common.{◌≡◌, ℕ, Bool, true, false, cond, List, [], ◌∷◌, ◌++◌, reverse, Some, None, Ok, Err, Decides, Option, Result, sym, refl, ap, ◌∙◌, subst, inl, inr, arith}
 use mathlib.Core.Bool.{Bool-set}
 use mathlib.Core.Logic.{∥∥₁_elim}
 use Rattle.std.specs.List.{AllByRecursion as All}
+use Rattle.std.proofs.lemmas.Bool.{cases_Bool}
 use Rattle.kinds.specs.Alphabet.{Alphabet}
 use Rattle.kinds.specs.Fragments as spec
-use Rattle.kinds.specs.Fragments.{fragments, oriented, bodies, some, is_literal, bare_place, limit_place, first_place, mirrored_placed}
+use Rattle.kinds.specs.Fragments.{fragments, cut_from, oriented, bodies, some, endless, is_gap, is_literal, bare_place, limit_place, first_place, mirrored_placed}
 use Rattle.kinds.specs.Grammar.{Placed, Ordered, start}
 use Rattle.kinds.specs.Patterns.{Item, Placement, hits}
 use Rattle.kinds.specs.Reader.{items_of}
@@ -15,11 +16,11 @@ use Rattle.kinds.specs.declared.pattern.Reference.TheVariants.{Front, Back, Anyw
 use Rattle.kinds.proofs.Anchors.{Small, any_break, fragments_small, anchor_codes}
 use Rattle.kinds.proofs.Backs.{mirrored_placed_twice, limits_mirrored, literals_mirrored, found_from_back}
 use Rattle.kinds.proofs.Decisions.{hits_exactly}
-use Rattle.kinds.proofs.Searches.{found_exactly}
+use Rattle.kinds.proofs.Searches.{found_exactly, cut_gap, cut_thing, cut_held}
 use Rattle.kinds.proofs.Sound as reader
 use Rattle.engine.specs.Compiled.{Hold}
 use Rattle.engine.specs.Limits.{refusal}
-use Rattle.engine.specs.Searched.{AllSearched, first_break, Sound}
+use Rattle.engine.specs.Searched.{AllSearched, opened, Sound}
 use Rattle.engine.specs.Sequences.{outcome, said, CompiledFrom}
 use Rattle.engine.specs.declared.cause.Cause.{Cause}
 use Rattle.engine.specs.declared.cause.Cause.TheVariants.{Grammar, Limit, NoLiteral}
@@ -49,17 +50,17 @@ oriented_twice Back qs = mirrored_placed_twice qs
 oriented_twice Anywhere qs = refl
 
 -- what is compiled from a text is sound
-pub compiled_sound : {E : Type 0} (a : Alphabet E) (t : List ℕ) (r : Reference) (lo break : ℕ) (qs items mirror : List Placed) (fs : List Fragment)
-    → outcome a t ≡ Ok qs → items ≡ oriented r qs → mirror ≡ mirrored_placed items → break ≡ first_break r lo → Hold r items fs (fragments break items)
+pub compiled_sound : {E : Type 0} (a : Alphabet E) (t : List ℕ) (r : Reference) (lo : ℕ) (qs items mirror : List Placed) (fs : List Fragment)
+    → outcome a t ≡ Ok qs → items ≡ oriented r qs → mirror ≡ mirrored_placed items → Hold r items fs (fragments lo items)
     → Sound r lo items mirror fs
-compiled_sound a t r lo break qs items mirror fs read order mirrors first held =
+compiled_sound a t r lo qs items mirror fs read order mirrors held =
     let (text, accepted) = outcome_items a t qs read in
     let back : oriented r items ≡ qs = ap (oriented r) order ∙ oriented_twice r qs in
     record {
       ordered = subst (Ordered start) (sym back) (reader.sound a t qs text).0;
       accepted = ap refusal back ∙ accepted;
       mirrors = mirrors;
-      compiled = subst (λ n. Hold r items fs (fragments n items)) first held;
+      compiled = held;
     }
 
 -- what a compiled sequence says are the items of its text
@@ -122,39 +123,65 @@ each_searched r items mirror m (f ∷ fs) (g ∷ gs) (h, hs) (small, smalls) (y,
 
 -- the fragments of a sound sequence can be searched for
 all_searched : (r : Reference) (lo : ℕ) (items mirror : List Placed) (fs : List Fragment)
-    → Sound r lo items mirror fs → AllSearched r items mirror fs (fragments (first_break r lo) items)
+    → Sound r lo items mirror fs → AllSearched r items mirror fs (fragments lo items)
 all_searched r lo items mirror fs s =
-    let (within, literals) = searchable r items (first_break r lo) s.ordered s.accepted in
-    each_searched r items mirror s.mirrors fs (fragments (first_break r lo) items) s.compiled (fragments_small items (first_break r lo) within) literals
+    let (within, literals) = searchable r items lo s.ordered s.accepted in
+    each_searched r items mirror s.mirrors fs (fragments lo items) s.compiled (fragments_small items lo within) literals
+
+-- fragments of which the first has another break are those cut with that break
+opened_cut : (qs : List Placed) (from lo : ℕ) (body row : List Placed) → opened from (cut_from lo body row qs) ≡ cut_from from body row qs
+opened_cut [] from lo body row = refl
+opened_cut (q ∷ qs) from lo body row =
+    elim (cases_Bool (is_gap q.item)) [
+      | inl y ↦ ap (opened from) (cut_gap lo body row q qs y) ∙ opened_cut qs from lo body (row ++ q ∷ []) ∙ sym (cut_gap from body row q qs y)
+      | inr n ↦
+          elim (cases_Bool (some endless row)) [
+            | inl y ↦ ap (opened from) (cut_thing lo body row q qs n y) ∙ sym (cut_thing from body row q qs n y)
+            | inr m ↦ ap (opened from) (cut_held lo body row q qs n m) ∙ opened_cut qs from lo (body ++ (row ++ q ∷ [])) [] ∙ sym (cut_held from body row q qs n m)
+          ]
+    ]
 
 -- What the search answers.
 
--- an answer is that of the search for the fragments
-abbrev Answers : List Placed → List Placed → List Fragment → Bool → Option ℕ → List ℕ → Type 0
-Answers items mirror fs b until xs = (ref : Reference) (gs : List spec.Fragment) → AllSearched ref items mirror fs gs → b ≡ found gs 0 until xs
+-- an answer is that of the search for the fragments, the first of them from a place on
+abbrev Answers : List Placed → List Placed → List Fragment → Bool → ℕ → Option ℕ → List ℕ → Type 0
+Answers items mirror fs b from until xs =
+    (ref : Reference) (gs : List spec.Fragment) → AllSearched ref items mirror fs gs → b ≡ found (opened from gs) 0 until xs
+
+-- for a sound sequence it is the search for the fragments cut with that break
+answers_cut : (r : Reference) (lo : ℕ) (items mirror : List Placed) (fs : List Fragment) (b : Bool) (from : ℕ) (until : Option ℕ) (xs : List ℕ)
+    → Sound r lo items mirror fs → Answers items mirror fs b from until xs → b ≡ found (fragments from items) 0 until xs
+answers_cut r lo items mirror fs b from until xs s h =
+    h r (fragments lo items) (all_searched r lo items mirror fs s) ∙ ap (λ gs. found gs 0 until xs) (opened_cut items from lo [] [])
 
 -- for a sequence from the front it is what the rule says
 answers_front : (lo hi : ℕ) (items mirror : List Placed) (fs : List Fragment) (b : Bool) (xs : List ℕ)
-    → Sound Front lo items mirror fs → Answers items mirror fs b (Some hi) xs → b ≡ hits Front lo hi (bodies items) xs
+    → Sound Front lo items mirror fs → Answers items mirror fs b lo (Some hi) xs → b ≡ hits Front lo hi (bodies items) xs
 answers_front lo hi items mirror fs b xs s h =
-    h Front (fragments lo items) (all_searched Front lo items mirror fs s)
+    answers_cut Front lo items mirror fs b lo (Some hi) xs s h
     ∙ (found_exactly items lo hi xs s.ordered (accepted_parts items s.accepted).0).0
 
 -- and for one that may stand anywhere
 answers_anywhere : (lo hi : ℕ) (items mirror : List Placed) (fs : List Fragment) (b : Bool) (xs : List ℕ)
-    → Sound Anywhere lo items mirror fs → Answers items mirror fs b None xs → b ≡ hits Anywhere lo hi (bodies items) xs
+    → Sound Anywhere lo items mirror fs → Answers items mirror fs b 0 None xs → b ≡ hits Anywhere lo hi (bodies items) xs
 answers_anywhere lo hi items mirror fs b xs s h =
-    h Anywhere (fragments 0 items) (all_searched Anywhere lo items mirror fs s)
+    answers_cut Anywhere lo items mirror fs b 0 None xs s h
     ∙ (found_exactly items 0 0 xs s.ordered (accepted_parts items s.accepted).0).1
 
 -- and for one from the back, over the reversed reading
 answers_back : (lo hi : ℕ) (items mirror : List Placed) (fs : List Fragment) (b : Bool) (xs : List ℕ)
-    → Sound Back lo items mirror fs → Answers items mirror fs b (Some hi) (reverse xs) → b ≡ hits Back lo hi (bodies (mirrored_placed items)) xs
+    → Sound Back lo items mirror fs → Answers items mirror fs b lo (Some hi) (reverse xs) → b ≡ hits Back lo hi (bodies (mirrored_placed items)) xs
 answers_back lo hi items mirror fs b xs s h =
     let said = mirrored_placed items in
-    h Back (fragments lo items) (all_searched Back lo items mirror fs s)
+    answers_cut Back lo items mirror fs b lo (Some hi) (reverse xs) s h
     ∙ ap (λ l. found (fragments lo l) 0 (Some hi) (reverse xs)) (sym (mirrored_placed_twice items))
     ∙ found_from_back said lo hi xs s.ordered (accepted_parts said s.accepted).0
+
+-- from where a first fragment may start
+abbrev pub from_in : Reference → ℕ → ℕ
+from_in Front lo = lo
+from_in Back lo = lo
+from_in Anywhere lo = 0
 
 -- until where a first fragment may start
 abbrev pub until_in : Reference → ℕ → Option ℕ
@@ -170,10 +197,10 @@ codes_in Anywhere xs = xs
 
 -- so the answer is what the rule says, whatever the sequence is counted from
 pub answers_hit : (r : Reference) (lo hi : ℕ) (items mirror : List Placed) (fs : List Fragment) (b : Bool) (xs : List ℕ)
-    → ∥ Sound r lo items mirror fs ∥₁ → Answers items mirror fs b (until_in r hi) (codes_in r xs) → b ≡ hits r lo hi (bodies (oriented r items)) xs
+    → ∥ Sound r lo items mirror fs ∥₁ → Answers items mirror fs b (from_in r lo) (until_in r hi) (codes_in r xs) → b ≡ hits r lo hi (bodies (oriented r items)) xs
 answers_hit r lo hi items mirror fs b xs sound h = ∥∥₁_elim sound (Bool-set b _) (λ s. exact r s h)
   where
-    exact : (r : Reference) → Sound r lo items mirror fs → Answers items mirror fs b (until_in r hi) (codes_in r xs) → b ≡ hits r lo hi (bodies (oriented r items)) xs
+    exact : (r : Reference) → Sound r lo items mirror fs → Answers items mirror fs b (from_in r lo) (until_in r hi) (codes_in r xs) → b ≡ hits r lo hi (bodies (oriented r items)) xs
     exact Front s h = answers_front lo hi items mirror fs b xs s h
     exact Back s h = answers_back lo hi items mirror fs b xs s h
     exact Anywhere s h = answers_anywhere lo hi items mirror fs b xs s h

@@ -4,7 +4,6 @@ use Rattle.kinds.specs.Fragments as spec
 use Rattle.kinds.specs.Fragments.{anchor, bodies, fragments, mirrored_placed, oriented}
 use Rattle.kinds.specs.Grammar.{Placed, Ordered, start}
 use Rattle.kinds.specs.declared.pattern.Reference.{Reference}
-use Rattle.kinds.specs.declared.pattern.Reference.TheVariants.{Front, Back, Anywhere}
 use Rattle.kinds.proofs.Anchors.{Small}
 use Rattle.engine.specs.Compiled.{Holds, Hold}
 use Rattle.engine.specs.Limits.{refusal}
@@ -25,11 +24,10 @@ AllSearched r items mirror [] (g ∷ gs) = ⊥
 AllSearched r items mirror (f ∷ fs) [] = ⊥
 AllSearched r items mirror (f ∷ fs) (g ∷ gs) = Searched r items mirror f g × AllSearched r items mirror fs gs
 
--- the break of a sequence's first fragment: a sequence that may stand anywhere has no offsets
-abbrev pub first_break : Reference → ℕ → ℕ
-first_break Front lo = lo
-first_break Back lo = lo
-first_break Anywhere lo = 0
+-- fragments of which the first has another break
+abbrev pub opened : ℕ → List spec.Fragment → List spec.Fragment
+opened from [] = []
+opened from (g ∷ gs) = record { break = from; body = g.body } ∷ gs
 
 -- A sequence that the compiler can have made: the items, in the order of the text, are a text's and not refused; the
 -- mirrored items are theirs, and the fragments hold their fragments.
@@ -37,4 +35,4 @@ pub record Sound (r : Reference) (lo : ℕ) (items mirror : List Placed) (fs : L
   pub ordered : Ordered start (oriented r items)
   pub accepted : refusal (oriented r items) ≡ None
   pub mirrors : mirror ≡ mirrored_placed items
-  pub compiled : Hold r items fs (fragments (first_break r lo) items)
+  pub compiled : Hold r items fs (fragments lo items)

@@ -12,7 +12,6 @@ use Rattle.kinds.specs.declared.pattern.Reference.{Reference}
 use Rattle.engine.specs.Compiled.{Hold}
 use Rattle.engine.specs.Limits.{refusal}
 use Rattle.engine.specs.Reading.{held}
-use Rattle.engine.specs.Searched.{first_break}
 use Rattle.engine.specs.declared.cause.Cause.{Cause}
 use Rattle.engine.specs.declared.cause.Cause.TheVariants.{Memory, Grammar}
 use Rattle.engine.specs.declared.fault.Fault.{Fault}
@@ -44,7 +43,7 @@ pub record CompiledFrom {E : Type 0} (a : Alphabet E) (t : List ℕ) (r : Refere
   pub items : List Placed
   pub read : outcome a t ≡ Ok items
   pub pattern : held s.pattern ≡ oriented r items
-  pub fragments : Hold r (held s.pattern) (vec_items s.fragments) (fragments (first_break r lo) (oriented r items))
+  pub fragments : Hold r (held s.pattern) (vec_items s.fragments) (fragments lo (oriented r items))
   pub reference : s.reference ≡ r
   pub offsets : (s.lo ≡ lo) × (s.hi ≡ hi)
 
@@ -65,7 +64,7 @@ shown r fs (suc k) index = option_map (numbers r index) (slice_get fs k)
 
 -- what is shown of a text
 abbrev pub Shown : {E : Type 0} → Alphabet E → List ℕ → ℕ → Reference → ℕ → ℕ → ℕ → Result (Option (ℕ × ℕ × ℕ × ℕ)) Fault → Type 0
-Shown a t number r lo fragment index (Ok o) = (items : List Placed) × (outcome a t ≡ Ok items) × (o ≡ shown r (fragments (first_break r lo) (oriented r items)) fragment index)
+Shown a t number r lo fragment index (Ok o) = (items : List Placed) × (outcome a t ≡ Ok items) × (o ≡ shown r (fragments lo (oriented r items)) fragment index)
 Shown a t number r lo fragment index (Err f) = Refused a t number f
 
 -- whether a text, compiled, hits a reading

@@ -18,7 +18,7 @@ use crate::fragment::Fragment;
 use crate::part::{Part, PlacedPart};
 use crate::pattern::Pattern;
 use crate::reach::reach;
-use crate::scan::next_fit;
+use crate::scan::next_fit_up_to;
 use crate::view::View;
 use kinds::reading::Reading;
 use rows::{Row, first_from};
@@ -167,7 +167,7 @@ pub(crate) fn least_end<R: Reading>(
     let mut place = first_place(from, fragment.lead)?;
     let mut last = last_place(until);
     let mut best = None;
-    while let Some(fit) = next_fit(reading, &codes[..len], &fragment.shifts, place, last) {
+    while let Some(fit) = next_fit_up_to(reading, &codes[..len], &fragment.shifts, place, last) {
         if fit < place {
             return None;
         }

@@ -25,9 +25,21 @@ fn fits<R: Reading>(reading: &R, anchor: &[u16], place: u32) -> bool
     true
 }
 
+// The first place, from one on, where an anchor stands, or none.
+pub fn next_fit<R: Reading>(
+    reading: &R,
+    anchor: &[u16],
+    shifts: &[u32; INDICES],
+    from: u32,
+) -> Option<u32>
+    ensures { ShiftsOf shifts.now anchor.now → result ≡ first_fit anchor.now (codes_of R.Element.Kind.alphabet (R.elements reading.now)) from }
+{
+    next_fit_up_to(reading, anchor, shifts, from, u32::MAX)
+}
+
 // The first place, from one on and not past another, where an anchor stands, or none. A window of the anchor's length moves
 // on by the shift of the element beyond it. A shift of 0, which no anchor's table has, ends the search.
-pub fn next_fit<R: Reading>(
+pub fn next_fit_up_to<R: Reading>(
     reading: &R,
     anchor: &[u16],
     shifts: &[u32; INDICES],

@@ -2,7 +2,6 @@
 ghost use Rattle.std.specs.Prelude.{◌≡◌, List};
 ghost use Rattle.engine.specs.Codes.{codes_of};
 ghost use Rattle.engine.specs.Reading.{held};
-ghost use Rattle.engine.specs.Searched.{first_break};
 ghost use Rattle.engine.specs.Sequences.{Checked, Compiled, Hit, Shown, shown};
 ghost use Rattle.engine.specs.Compiled.{Hold};
 ghost use Rattle.kinds.specs.Fragments.{oriented};
@@ -48,16 +47,6 @@ fn in_order(pattern: Pattern, reference: Reference) -> Pattern
     }
 }
 
-// The break of the first fragment: a sequence that may stand anywhere has no offsets.
-fn first_break(reference: Reference, lo: u16) -> u16
-    ensures { result ≡ first_break reference lo }
-{
-    match reference {
-        Reference::Front | Reference::Back => lo,
-        Reference::Anywhere => 0,
-    }
-}
-
 // A text compiled for its search, or its refusal.
 pub fn compiled<K: Kind>(
     heap: Global,
@@ -71,7 +60,7 @@ pub fn compiled<K: Kind>(
 {
     let pattern = in_order(checked::<K>(heap, number, text)?, reference);
     let mirror = mirrored(pattern.copied(heap)?);
-    let fragments = fragments_of(heap, &pattern, reference, first_break(reference, lo))?;
+    let fragments = fragments_of(heap, &pattern, reference, lo)?;
     Ok(Sequence {
         reference,
         lo,

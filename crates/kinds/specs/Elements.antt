@@ -26,6 +26,9 @@ is_byte x n e = same_byte x (byte n) (omega (arith, x.fits))
 pub is_band : (x : Band) (n : ℕ) → x.digit ≡ n → x ≡ band n
 is_band x n e = same_band x (band n) (omega (arith, x.decimal))
 
+pub hexadecimal_small : (c n : ℕ) → hexadecimal c ≡ Some n → n < 16
+hexadecimal_small c n e = grind (arith, nat_tests)
+
 pub hexadecimal_alphanumeric : (c n : ℕ) → hexadecimal c ≡ Some n → alphanumeric c ≡ true
 hexadecimal_alphanumeric c n e = grind (arith, nat_tests)
 

@@ -40,7 +40,7 @@ returns-then-fit-place g c r f s =
     let xs = codes_of g.R.Element.Kind.alphabet (g.R.Reading.elements c.args.reading.now) in
     let codes = c.literal_codes-len.ensures.codes (vec_items pattern.codes) (vec_items pattern.runs)
     ∙ codes_stored r (held pattern) (held mirror) fragment f s (vec_items pattern.codes) (vec_items pattern.runs) (vec_items pattern.parts) c.as_slice.result.now refl c.as_slice.ensures.value in
-    let on = next_on r (held pattern) (held mirror) fragment f s c.args.from c.args.until xs _ codes c.loop-fit.place c.loop-fit.last c.next_fit.result c.next_fit.ensures c.in-Some.fit c.in-Some.is in
+    let on = next_on r (held pattern) (held mirror) fragment f s c.args.from c.args.until xs _ codes c.loop-fit.place c.loop-fit.last c.next_fit_up_to.result c.next_fit_up_to.ensures c.in-Some.fit c.in-Some.is in
     absurd (omega arith)
 
 pub returns-in_err-place-2 : goal.returns-in_err-place-2
@@ -53,7 +53,7 @@ returns-in_err-place-2 g c r f s =
     ∙ codes_stored r (held pattern) (held mirror) fragment f s (vec_items pattern.codes) (vec_items pattern.runs) (vec_items pattern.parts) c.as_slice.result.now refl c.as_slice.ensures.value in
     let few = g.R.Reading.bounded c.args.reading.now in
     let many = length-map (g.R.Reading.elements c.args.reading.now) g.R.Element.Kind.alphabet.code in
-    let before = next_before r (held pattern) (held mirror) fragment f s c.args.from c.args.until xs _ codes c.loop-fit.place c.loop-fit.last c.next_fit.result c.next_fit.ensures c.in-Some.fit c.in-Some.is (omega arith) in
+    let before = next_before r (held pattern) (held mirror) fragment f s c.args.from c.args.until xs _ codes c.loop-fit.place c.loop-fit.last c.next_fit_up_to.result c.next_fit_up_to.ensures c.in-Some.fit c.in-Some.is (omega arith) in
     absurd (omega (arith, c.in_err-place-2.ensures))
 
 pub loop-fit-preserved : goal.loop-fit-preserved
@@ -64,7 +64,7 @@ loop-fit-preserved g c r f s =
     let xs = codes_of g.R.Element.Kind.alphabet (g.R.Reading.elements c.args.reading.now) in
     let codes = c.literal_codes-len.ensures.codes (vec_items pattern.codes) (vec_items pattern.runs)
     ∙ codes_stored r (held pattern) (held mirror) fragment f s (vec_items pattern.codes) (vec_items pattern.runs) (vec_items pattern.parts) c.as_slice.result.now refl c.as_slice.ensures.value in
-    best_next r (held pattern) (held mirror) fragment f s c.args.from c.args.until xs _ codes c.loop-fit.place c.loop-fit.last c.next_fit.result c.next_fit.ensures
+    best_next r (held pattern) (held mirror) fragment f s c.args.from c.args.until xs _ codes c.loop-fit.place c.loop-fit.last c.next_fit_up_to.result c.next_fit_up_to.ensures
     c.in-Some.fit c.in-Some.is c.loop-fit.best c.end_through.result c.smaller-best.result c.in_ok-place-2.place c.last_useful-last.result
     (λ y. c.end_through.ensures (anchor r (bodies f.body)) (sides_of r (held pattern) (held mirror) fragment f s) y)
     c.smaller-best.ensures c.in_ok-place-2.ensures.1 c.last_useful-last.ensures (c.loop-fit.invariant r f s)
@@ -77,4 +77,4 @@ returns g c r f s =
     let xs = codes_of g.R.Element.Kind.alphabet (g.R.Reading.elements c.args.reading.now) in
     let codes = c.literal_codes-len.ensures.codes (vec_items pattern.codes) (vec_items pattern.runs)
     ∙ codes_stored r (held pattern) (held mirror) fragment f s (vec_items pattern.codes) (vec_items pattern.runs) (vec_items pattern.parts) c.as_slice.result.now refl c.as_slice.ensures.value in
-    best_ends r (held pattern) (held mirror) fragment f s c.args.from c.args.until xs _ codes c.loop-fit.place c.loop-fit.last c.next_fit.result c.next_fit.ensures c.loop-fit.best c.in_default.is (c.loop-fit.invariant r f s)
+    best_ends r (held pattern) (held mirror) fragment f s c.args.from c.args.until xs _ codes c.loop-fit.place c.loop-fit.last c.next_fit_up_to.result c.next_fit_up_to.ensures c.loop-fit.best c.in_default.is (c.loop-fit.invariant r f s)

@@ -1,7 +1,7 @@
 use Rattle.std.proofs.Common.{◌≡◌, ◌+◌, ◌-◌}
 use Rattle.kinds.specs.Search.{first_fit}
 use Rattle.engine.specs.Codes.{codes_of, ShiftsOf}
-use Rattle.engine.proofs.scan.next_fit.Given as goal
+use Rattle.engine.proofs.scan.next_fit_up_to.Given as goal
 
 -- no place before this one is missed
 abbrev pub invariant-loop-place : goal.invariant-loop-place

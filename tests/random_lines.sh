@@ -6,7 +6,7 @@
 # output at 1 MiB. (Its interpreter, which it runs too, gives no answer to so many lines.)
 # A difference fails it, and prints the line.
 set -euo pipefail
-count=${1:-80000}
+count=${1:-100000}
 seed=${2:-$(date +%s)}
 part=20000
 top=$(cd "$(dirname "$0")/.." && pwd)
@@ -19,27 +19,23 @@ cp -r "$top/crates" "$work/"
 rm -rf "$work"/crates/*/out
 cd "$work"
 ./oracle lines "$seed" "$count" | split -l "$part" -d - cases/lines
+parts=0
 for lines in cases/lines*; do
     ./oracle answers <"$lines" >"$lines.stdout"
+    parts=$((parts + 1))
 done
-cd crates/probe
-if ! rt try --steps 1 --cases ../../cases >../../log 2>&1; then
+(cd crates/probe && rt try --steps 1 --cases ../../cases >../../log 2>&1) || true
+if [ "$(grep -c '^case=lines[0-9]* run=ended status=0 .*output=expected' log)" != "$parts" ]; then
     echo "random_lines: probe and the oracle differ, seed $seed:"
-    read -r name at < <(sed -n 's/^the output differs from `\(lines[0-9]*\)\.stdout`: at byte \([0-9]*\),.*/\1 \2/p' ../../log) || cat ../../log
+    read -r name at < <(sed -n 's/^the output differs from `\(lines[0-9]*\)\.stdout`: at byte \([0-9]*\),.*/\1 \2/p' log) || cat log
     if [ -n "${name:-}" ]; then
-        row=$(($(head -c "$at" "../../cases/$name.stdout" | wc -l) + 1))
-        sed -n "${row}p" "../../cases/$name"
-        sed -n "${row}s/^/expected: /p" "../../cases/$name.stdout"
+        row=$(($(head -c "$at" "cases/$name.stdout" | wc -l) + 1))
+        sed -n "${row}p" "cases/$name"
+        sed -n "${row}s/^/expected: /p" "cases/$name.stdout"
+        grep '^the output differs' log | cut -c 1-300
     fi
-    grep '^the output differs' ../../log | cut -c 1-300
     exit 1
 fi
-cd ../../cases
-answered=$(cat ./*.stdout | wc -l)
-found=$(cat ./*.stdout | grep -c '^hit$' || true)
-missed=$(cat ./*.stdout | grep -c '^miss$' || true)
-if [ "$answered" != "$count" ]; then
-    echo "random_lines: $answered of $count lines were answered"
-    exit 1
-fi
+found=$(cat cases/*.stdout | grep -c '^hit$' || true)
+missed=$(cat cases/*.stdout | grep -c '^miss$' || true)
 echo "random_lines: $count lines answered alike, $found hits and $missed misses among them (seed $seed)"

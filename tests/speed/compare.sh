@@ -1,13 +1,13 @@
 #!/usr/bin/env bash
 # Times `bench` beside the same search written plainly in Rust, tests/speed/plain_search.rs, over 16 MiB of bytes in memory.
-#   rt check bench && tests/speed/compare.sh [RUNS]
+#   (cd crates/bench && rt run) && tests/speed/compare.sh [RUNS]
 # It needs rustc, and is no part of the gate: it judges nothing. A pattern that is no run of literals has no plain search.
 set -euo pipefail
 runs=${1:-9}
 top=$(cd "$(dirname "$0")/../.." && pwd)
-bench=$top/target/bin/bench
+bench=$top/crates/bench/out/bench
 if [ ! -x "$bench" ]; then
-    echo "compare: there is no target/bin/bench; rt check bench makes it" >&2
+    echo "compare: there is no crates/bench/out/bench; rt run in crates/bench makes it" >&2
     exit 1
 fi
 work=$(mktemp -d)

@@ -1,5 +1,5 @@
 -- Where an anchor stands, and that no place is missed where the window moves on by a shift.
-use Rattle.std.proofs.Common.{◌≡◌, ℕ, zero, suc, ◌+◌, ◌-◌, ◌%◌, ◌<◌, ◌≤◌, min, true, false, eqb, leb, List, [], ◌∷◌, length, get_or, drop, Some, None, Decides, Option, sym, refl, ap, ◌∙◌, ⊎_elim, add-zero, arith}
+use Rattle.std.proofs.Common.{◌≡◌, ℕ, zero, suc, ◌+◌, ◌-◌, ◌%◌, ◌<◌, ◌≤◌, min, max, true, false, eqb, leb, List, [], ◌∷◌, length, get_or, drop, Some, None, Decides, Option, sym, refl, ap, ◌∙◌, ⊎_elim, add-zero, arith}
 use Rattle.std.specs.List.{slice_get}
 use Rattle.std.proofs.iter.runs.Lists.{slice_get_within}
 use Rattle.std.proofs.lemmas.List.{length-map, get_or-map, get_or-take, get_or-drop, ext_get_or}
@@ -67,22 +67,6 @@ smallest_first n (m ∷ ms) = omega (arith, smallest_first (min n m) ms)
 -- a shift is at most the length plus 1
 pub shift_most : (codes : List ℕ) (index : ℕ) → shift codes index ≤ suc (length codes)
 shift_most codes index = smallest_first _ (distances codes index)
-
--- the smallest of some numbers above 0 is above 0
-smallest_some : (codes : List ℕ) (index n : ℕ) → 0 < n → 0 < smallest n (distances codes index)
-smallest_some [] index n h = h
-smallest_some (c ∷ cs) index n h =
-    cond_both
-    (eqb (c % 256) index)
-    (suc (length cs) ∷ distances cs index)
-    (distances cs index)
-    (λ ms. 0 < smallest n ms)
-    (λ _. smallest_some cs index (min n (suc (length cs))) (omega arith))
-    (λ _. smallest_some cs index n h)
-
--- no shift is 0
-pub shift_some : (codes : List ℕ) (index : ℕ) → 0 < shift codes index
-shift_some codes index = smallest_some codes index (suc (length codes)) (omega arith)
 
 -- the smallest distance of a code's index is at most the code's
 smallest_distance : (codes : List ℕ) (n k : ℕ) → k < length codes → smallest n (distances codes (get_or codes k 0 % 256)) ≤ length codes - k
@@ -160,15 +144,15 @@ module _ (codes xs : List ℕ) where
           let fails = stands_not codes xs at (λ s. omega (arith, s.inside)) in
           rw (fails, first_fit_from) (go count (suc at) (omega arith))
 
-  -- the window moves on by the shift of the element beyond it, and misses no place
+  -- the window moves on by the shift of the element beyond it, or by 1, and misses no place
   pub moves_on : (shifts : List ℕ) (place code : ℕ) → ShiftsOf shifts codes → stands_at codes xs place ≡ false → get_or xs (place + length codes) 0 ≡ code
-      → first_fit codes xs place ≡ first_fit codes xs (place + get_or shifts (code % 256) 0)
-  moves_on shifts place code table fails beyond = first_beyond place (get_or shifts (code % 256) 0) missed
+      → first_fit codes xs place ≡ first_fit codes xs (place + max (get_or shifts (code % 256) 0) 1)
+  moves_on shifts place code table fails beyond = first_beyond place (max (get_or shifts (code % 256) 0) 1) missed
     where
       by : get_or shifts (code % 256) 0 ≡ shift codes (get_or xs (place + length codes) 0 % 256)
       by = table (code % 256) (omega arith) ∙ ap (λ c. shift codes (c % 256)) (sym beyond)
 
-      missed : (k : ℕ) → k < get_or shifts (code % 256) 0 → Stands codes xs (place + k) → ⊥
+      missed : (k : ℕ) → k < max (get_or shifts (code % 256) 0) 1 → Stands codes xs (place + k) → ⊥
       missed zero h = rw add-zero (not_from_Decides _ (stands_decides codes xs place) fails)
       missed (suc k) h = let step = by in passed_over codes xs place (suc k) (omega arith) (omega arith)
 

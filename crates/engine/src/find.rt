@@ -82,7 +82,7 @@ fn end_through<R: Reading>(
     until: Option<u64>,
 ) -> Option<u64>
     requires { Bounds (vec_len pattern.now.parts) fragment.now }
-    ensures { (a : Anchor) → Sides (held pattern.now) (held mirror.now) fragment.now a → stands_at a.codes (codes_of R.Element.Kind.alphabet (R.elements reading.now)) place ≡ true → LeastThrough a from until (codes_of R.Element.Kind.alphabet (R.elements reading.now)) place result }
+    ensures { (a : Anchor) → Sides (held pattern.now) (held mirror.now) fragment.now a → stands_at a.codes (codes_of R.Element.alphabet (R.elements reading.now)) place ≡ true → LeastThrough a from until (codes_of R.Element.alphabet (R.elements reading.now)) place result }
 {
     let count = mirror.parts.len();
     let first = count.saturating_sub(fragment.first);
@@ -157,7 +157,7 @@ pub(crate) fn least_end<R: Reading>(
     from: u64,
     until: Option<u64>,
 ) -> Option<u64>
-    ensures { (ref : Reference) (g : spec.Fragment) → Searched ref (held pattern.now) (held mirror.now) fragment.now g → result ≡ least_end (bodies g.body) from until (codes_of R.Element.Kind.alphabet (R.elements reading.now)) }
+    ensures { (ref : Reference) (g : spec.Fragment) → Searched ref (held pattern.now) (held mirror.now) fragment.now g → result ≡ least_end (bodies g.body) from until (codes_of R.Element.alphabet (R.elements reading.now)) }
 {
     if !is_bounded(pattern, fragment) {
         return None;

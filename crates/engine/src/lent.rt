@@ -9,9 +9,9 @@ pub(crate) struct Lent<'r, R> {
 impl<'r, R: Reading> Reading for Lent<'r, R> {
     type Element = R::Element;
 
-    ghost elements = { λ s. R.Reading.elements s.reading.now };
+    ghost elements = { λ s. R.elements s.reading.now };
 
-    ghost bounded = { λ s. R.Reading.bounded s.reading.now };
+    ghost bounded = { λ s. R.bounded s.reading.now };
 
     fn len(&self) -> u32 {
         self.reading.len()

@@ -60,8 +60,8 @@ fn compare<R: Reading>(
     len: u32,
     run: &[u16],
 ) -> Ordering
-    requires { at + len ≤ length (seen (map R.Element.Kind.alphabet.code (R.Reading.elements view.now.reading.now)) view.now.base view.now.back) }
-    ensures { result ≡ order (compared direction (stretch (seen (map R.Element.Kind.alphabet.code (R.Reading.elements view.now.reading.now)) view.now.base view.now.back) at (at + len))) (compared direction run.now) }
+    requires { at + len ≤ length (seen (map R.Element.alphabet.code (R.elements view.now.reading.now)) view.now.base view.now.back) }
+    ensures { result ≡ order (compared direction (stretch (seen (map R.Element.alphabet.code (R.elements view.now.reading.now)) view.now.base view.now.back) at (at + len))) (compared direction run.now) }
 {
     let held = run.len();
     for i in 0..held.min(len as usize) {
@@ -85,8 +85,8 @@ fn lies_between<R: Reading>(
     view: &View<R>,
     at: u32,
 ) -> bool
-    requires { at + length low.now ≤ length (seen (map R.Element.Kind.alphabet.code (R.Reading.elements view.now.reading.now)) view.now.base view.now.back) }
-    ensures { result ≡ between direction low.now high.now (stretch (seen (map R.Element.Kind.alphabet.code (R.Reading.elements view.now.reading.now)) view.now.base view.now.back) at (at + length low.now)) }
+    requires { at + length low.now ≤ length (seen (map R.Element.alphabet.code (R.elements view.now.reading.now)) view.now.base view.now.back) }
+    ensures { result ≡ between direction low.now high.now (stretch (seen (map R.Element.alphabet.code (R.elements view.now.reading.now)) view.now.base view.now.back) at (at + length low.now)) }
 {
     let len = low.len() as u32;
     compare(direction, view, at, len, low).is_ge()
@@ -101,7 +101,7 @@ struct Standing<'v, 'r, R> {
 }
 
 impl<'v, 'r, R: Reading> Question for Standing<'v, 'r, R> {
-    ghost asked = { λ s. matches_at (literal s.code) 1 (seen (map R.Element.Kind.alphabet.code (R.Reading.elements s.view.now.reading.now)) s.view.now.base s.view.now.back) };
+    ghost asked = { λ s. matches_at (literal s.code) 1 (seen (map R.Element.alphabet.code (R.elements s.view.now.reading.now)) s.view.now.base s.view.now.back) };
 
     fn ask(&self, offset: usize) -> bool {
         if offset >= self.view.len() as usize {
@@ -125,7 +125,7 @@ struct Ranging<'l, 'h, 'v, 'r, R> {
 }
 
 impl<'l, 'h, 'v, 'r, R: Reading> Question for Ranging<'l, 'h, 'v, 'r, R> {
-    ghost asked = { λ s. matches_at (range s.direction s.inside s.low.now s.high.now) (length s.low.now) (seen (map R.Element.Kind.alphabet.code (R.Reading.elements s.view.now.reading.now)) s.view.now.base s.view.now.back) };
+    ghost asked = { λ s. matches_at (range s.direction s.inside s.low.now s.high.now) (length s.low.now) (seen (map R.Element.alphabet.code (R.elements s.view.now.reading.now)) s.view.now.base s.view.now.back) };
 
     fn ask(&self, offset: usize) -> bool {
         let seen = self.view.len() as usize;
@@ -144,7 +144,7 @@ impl<'l, 'h, 'v, 'r, R: Reading> Question for Ranging<'l, 'h, 'v, 'r, R> {
 
 // Moves a row on behind a literal.
 fn pass_literal<R: Reading>(code: u16, row: &mut Row, view: &View<R>)
-    ensures { Stepped (literal code) row.old (seen (map R.Element.Kind.alphabet.code (R.Reading.elements view.now.reading.now)) view.now.base view.now.back) row.new }
+    ensures { Stepped (literal code) row.old (seen (map R.Element.alphabet.code (R.elements view.now.reading.now)) view.now.base view.now.back) row.new }
 {
     keep(row, &Standing { code, view });
     shift(row, 1);
@@ -159,7 +159,7 @@ fn behind_range<R: Reading>(
     row: Row,
     view: &View<R>,
 ) -> Row
-    ensures { Stepped (range direction inside low.now high.now) row (seen (map R.Element.Kind.alphabet.code (R.Reading.elements view.now.reading.now)) view.now.base view.now.back) result }
+    ensures { Stepped (range direction inside low.now high.now) row (seen (map R.Element.alphabet.code (R.elements view.now.reading.now)) view.now.base view.now.back) result }
 {
     let question = Ranging {
         direction,
@@ -174,7 +174,7 @@ fn behind_range<R: Reading>(
 // The row behind one of some runs.
 fn behind_group<R: Reading>(pattern: &Pattern, runs: &[Run], row: Row, view: &View<R>) -> Row
     requires { all_runs_within pattern.now.codes.items runs.now ≡ true }
-    ensures { Stepped (group (map (run_codes pattern.now.codes.items) runs.now)) row (seen (map R.Element.Kind.alphabet.code (R.Reading.elements view.now.reading.now)) view.now.base view.now.back) result }
+    ensures { Stepped (group (map (run_codes pattern.now.codes.items) runs.now)) row (seen (map R.Element.alphabet.code (R.elements view.now.reading.now)) view.now.base view.now.back) result }
 {
     let mut all = none();
     for run in runs {
@@ -191,7 +191,7 @@ fn behind_group<R: Reading>(pattern: &Pattern, runs: &[Run], row: Row, view: &Vi
 // The row behind a part.
 fn step<R: Reading>(pattern: &Pattern, part: Part, mut row: Row, view: &View<R>) -> Row
     requires { part_within pattern.now.codes.items pattern.now.runs.items part ≡ true }
-    ensures { Stepped (item_of pattern.now.codes.items pattern.now.runs.items part) row (seen (map R.Element.Kind.alphabet.code (R.Reading.elements view.now.reading.now)) view.now.base view.now.back) result }
+    ensures { Stepped (item_of pattern.now.codes.items pattern.now.runs.items part) row (seen (map R.Element.alphabet.code (R.elements view.now.reading.now)) view.now.base view.now.back) result }
 {
     match part {
         Part::Literal(code) => pass_literal(code, &mut row, view),
@@ -225,7 +225,7 @@ fn step<R: Reading>(pattern: &Pattern, part: Part, mut row: Row, view: &View<R>)
 pub(crate) fn reach<R: Reading>(pattern: &Pattern, from: usize, to: usize, view: &View<R>) -> Row
     requires ordered { from ≤ to }
     requires inside { to ≤ vec_len pattern.now.parts }
-    ensures { (j : ℕ) → member result j ≡ (nat_lt j 1024 && reaches (bodies (items pattern.now.codes.items pattern.now.runs.items (take (to - from) (drop from pattern.now.parts.items)))) (seen (map R.Element.Kind.alphabet.code (R.Reading.elements view.now.reading.now)) view.now.base view.now.back) j) }
+    ensures { (j : ℕ) → member result j ≡ (nat_lt j 1024 && reaches (bodies (items pattern.now.codes.items pattern.now.runs.items (take (to - from) (drop from pattern.now.parts.items)))) (seen (map R.Element.alphabet.code (R.elements view.now.reading.now)) view.now.base view.now.back) j) }
 {
     let mut row = with(none(), 0);
     for placed in &pattern.parts.as_slice()[from..to] {

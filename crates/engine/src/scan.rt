@@ -10,7 +10,7 @@ use kinds::reading::Reading;
 // Whether an anchor stands at a place of a reading, or at its end.
 fn fits<R: Reading>(reading: &R, anchor: &[u16], place: u32) -> bool
     requires { place ≤ length (R.elements reading.now) }
-    ensures { result ≡ stands_at anchor.now (codes_of R.Element.Kind.alphabet (R.elements reading.now)) place }
+    ensures { result ≡ stands_at anchor.now (codes_of R.Element.alphabet (R.elements reading.now)) place }
 {
     let mut at = place;
     for code in anchor {
@@ -32,13 +32,13 @@ pub fn next_fit<R: Reading>(
     shifts: &[u32; INDICES],
     from: u32,
 ) -> Option<u32>
-    ensures { ShiftsOf shifts.now anchor.now → result ≡ first_fit anchor.now (codes_of R.Element.Kind.alphabet (R.elements reading.now)) from }
+    ensures { ShiftsOf shifts.now anchor.now → result ≡ first_fit anchor.now (codes_of R.Element.alphabet (R.elements reading.now)) from }
 {
     next_fit_up_to(reading, anchor, shifts, from, u32::MAX)
 }
 
 // The first place, from one on and not past another, where an anchor stands, or none. A window of the anchor's length moves
-// on by the shift of the element beyond it. A shift of 0, which no anchor's table has, ends the search.
+// on by the shift of the element beyond it, and by 1 where the table has a shift of 0, which no anchor's table has.
 pub fn next_fit_up_to<R: Reading>(
     reading: &R,
     anchor: &[u16],
@@ -46,7 +46,7 @@ pub fn next_fit_up_to<R: Reading>(
     from: u32,
     to: u32,
 ) -> Option<u32>
-    ensures { ShiftsOf shifts.now anchor.now → result ≡ not_past to (first_fit anchor.now (codes_of R.Element.Kind.alphabet (R.elements reading.now)) from) }
+    ensures { ShiftsOf shifts.now anchor.now → result ≡ not_past to (first_fit anchor.now (codes_of R.Element.alphabet (R.elements reading.now)) from) }
 {
     let len = reading.len() as usize;
     let width = anchor.len();
@@ -60,11 +60,8 @@ pub fn next_fit_up_to<R: Reading>(
             return Some(place as u32);
         }
         let beyond = reading.at((place + width) as u32)?;
-        let shift = shifts[usize::from(beyond.code()) % INDICES] as usize;
-        if shift == 0 {
-            return None;
-        }
-        place += shift;
+        let shift = shifts[usize::from(beyond.code()) % INDICES];
+        place += shift.max(1) as usize;
     }
     None
 }

@@ -26,7 +26,7 @@ fn found_behind<R: Reading>(
     reading: &R,
     mut end: u64,
 ) -> bool
-    ensures { (ref : Reference) (gs : List spec.Fragment) → AllSearched ref (held pattern.now) (held mirror.now) fragments.now gs → result ≡ found_one_by_one gs end None (codes_of R.Element.Kind.alphabet (R.elements reading.now)) }
+    ensures { (ref : Reference) (gs : List spec.Fragment) → AllSearched ref (held pattern.now) (held mirror.now) fragments.now gs → result ≡ found_one_by_one gs end None (codes_of R.Element.alphabet (R.elements reading.now)) }
 {
     for fragment in fragments {
         let Some(from) = end.checked_add(fragment.gap) else {
@@ -43,7 +43,7 @@ fn found_behind<R: Reading>(
 // Whether the fragments are found in a reading one behind the other, the first starting from `from` on, whatever its break, and
 // no further than `until`.
 fn found<R: Reading>(sequence: &Sequence, reading: &R, from: u64, until: Option<u64>) -> bool
-    ensures { (ref : Reference) (gs : List spec.Fragment) → AllSearched ref (held sequence.now.pattern) (held sequence.now.mirror) sequence.now.fragments.items gs → result ≡ found_one_by_one (opened from gs) 0 until (codes_of R.Element.Kind.alphabet (R.elements reading.now)) }
+    ensures { (ref : Reference) (gs : List spec.Fragment) → AllSearched ref (held sequence.now.pattern) (held sequence.now.mirror) sequence.now.fragments.items gs → result ≡ found_one_by_one (opened from gs) 0 until (codes_of R.Element.alphabet (R.elements reading.now)) }
 {
     let pattern = &sequence.pattern;
     let mirror = &sequence.mirror;
@@ -58,8 +58,8 @@ fn found<R: Reading>(sequence: &Sequence, reading: &R, from: u64, until: Option<
 
 // Whether a sequence hits a reading: the decision of the rule, which is true exactly when a placement exists.
 pub fn hits<R: Reading>(sequence: &Sequence, reading: &R) -> bool
-    ensures decision { result ≡ hits_by_rule sequence.now.reference sequence.now.lo sequence.now.hi (bodies (said sequence.now)) (codes_of R.Element.Kind.alphabet (R.elements reading.now)) }
-    ensures placement { Decides result (Placement sequence.now.reference sequence.now.lo sequence.now.hi (bodies (said sequence.now)) (codes_of R.Element.Kind.alphabet (R.elements reading.now))) }
+    ensures decision { result ≡ hits_by_rule sequence.now.reference sequence.now.lo sequence.now.hi (bodies (said sequence.now)) (codes_of R.Element.alphabet (R.elements reading.now)) }
+    ensures placement { Decides result (Placement sequence.now.reference sequence.now.lo sequence.now.hi (bodies (said sequence.now)) (codes_of R.Element.alphabet (R.elements reading.now))) }
 {
     let from = u64::from(sequence.lo);
     let until = Some(u64::from(sequence.hi));

@@ -112,7 +112,7 @@ pub fn hit<R: Reading>(
     text: &[u8],
     reading: &R,
 ) -> Result<bool, Fault>
-    ensures { Hit R.Element.Kind.alphabet text.now 1 reference lo hi (codes_of R.Element.Kind.alphabet (R.elements reading.now)) result }
+    ensures { Hit R.Element.alphabet text.now 1 reference lo hi (codes_of R.Element.alphabet (R.elements reading.now)) result }
 {
     let sequence = compiled::<R::Element>(heap, 1, reference, lo, hi, text)?;
     Ok(hits(&sequence, reading))

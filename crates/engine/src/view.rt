@@ -17,7 +17,7 @@ pub(crate) struct View<'r, R> {
 impl<'r, R: Reading> View<'r, R> {
     // How many codes are seen.
     pub(crate) fn len(&self) -> u32
-        ensures { result ≡ length (seen (map R.Element.Kind.alphabet.code (R.Reading.elements self.now.reading.now)) self.now.base self.now.back) }
+        ensures { result ≡ length (seen (map R.Element.alphabet.code (R.elements self.now.reading.now)) self.now.base self.now.back) }
     {
         let all = self.reading.len();
         if self.back {
@@ -29,7 +29,7 @@ impl<'r, R: Reading> View<'r, R> {
 
     // The code at an offset.
     pub(crate) fn code(&self, offset: u32) -> Option<u16>
-        ensures { result ≡ slice_get (seen (map R.Element.Kind.alphabet.code (R.Reading.elements self.now.reading.now)) self.now.base self.now.back) offset }
+        ensures { result ≡ slice_get (seen (map R.Element.alphabet.code (R.elements self.now.reading.now)) self.now.base self.now.back) offset }
     {
         let len = self.len();
         if offset >= len {

@@ -20,9 +20,9 @@ impl<R: Reading> Backward<R> {
 impl<R: Reading> Reading for Backward<R> {
     type Element = R::Element;
 
-    ghost elements = { λ s. reverse (R.Reading.elements s.forward) };
+    ghost elements = { λ s. reverse (R.elements s.forward) };
 
-    ghost bounded = { λ s. reverse_bounded (R.Reading.elements s.forward) (R.Reading.bounded s.forward) };
+    ghost bounded = { λ s. reverse_bounded (R.elements s.forward) (R.bounded s.forward) };
 
     fn len(&self) -> u32 {
         self.forward.len()

@@ -23,9 +23,9 @@ impl<R: Reading<Element = Byte>> Marks<R> {
 impl<R: Reading<Element = Byte>> Reading for Marks<R> {
     type Element = Mark;
 
-    ghost elements = { λ s. map mark_of (R.Reading.elements s.bytes) };
+    ghost elements = { λ s. map mark_of (R.elements s.bytes) };
 
-    ghost bounded = { λ s. map_bounded mark_of (R.Reading.elements s.bytes) (R.Reading.bounded s.bytes) };
+    ghost bounded = { λ s. map_bounded mark_of (R.elements s.bytes) (R.bounded s.bytes) };
 
     fn len(&self) -> u32 {
         self.bytes.len()

@@ -1,7 +1,7 @@
 // Sets of offsets below 1,024, as rows of bits: offset k is bit k % 64 of word k / 64.
 #![tactic(auto)]
 
-ghost use Rattle.std.specs.Prelude.{◌≡◌, ℕ, ◌+◌, ◌-◌, ◌*◌, ◌/◌, ◌%◌, ◌<◌, ◌≤◌, Bool, true, false, not, ◌&&◌, ◌||◌, ltb, if◌then◌else◌, MatchBool, MatchOption, ◌==◌, nat_le, nat_lt, slice_index};
+ghost use Rattle.std.specs.Prelude.{◌≡◌, ℕ, ◌+◌, ◌-◌, ◌*◌, ◌/◌, ◌%◌, ◌<◌, ◌≤◌, Bool, true, false, not, ◌&&◌, ◌||◌, if◌then◌else◌, MatchBool, MatchOption, ◌==◌, nat_le, nat_lt, slice_index};
 ghost use Rattle.rows.specs.Rows.{bit, member, moved, some_distance, FirstFrom, NoneFrom};
 
 // How many offsets there are.
@@ -47,7 +47,7 @@ pub fn union(mut a: Row, b: Row) -> Row
 // The word `high` moved up by `bits`, with the top bits of the word below it, `low`, moved in.
 fn carried(low: u64, high: u64, bits: usize) -> u64
     requires { bits < 64 }
-    ensures { (b : ℕ) → bit result b ≡ (nat_lt b 64 && (if ltb b bits then bit low (64 - bits + b) else bit high (b - bits))) }
+    ensures { (b : ℕ) → bit result b ≡ (nat_lt b 64 && (if nat_lt b bits then bit low (64 - bits + b) else bit high (b - bits))) }
 {
     high << bits | low >> 1 >> (63 - bits)
 }

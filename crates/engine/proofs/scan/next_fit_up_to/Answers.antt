@@ -1,8 +1,9 @@
-use Rattle.std.proofs.Common.{◌≡◌, suc, ◌+◌, ◌%◌, length, sym, ap, ◌∙◌, ⊎_elim, arith}
+use Rattle.std.proofs.Common.{◌≡◌, suc, ◌+◌, length, sym, ap, ◌∙◌, ⊎_elim, arith}
 use Rattle.std.proofs.lemmas.List.{length-map}
 use Rattle.std.proofs.lemmas.Bool.{cases_lt}
+use Rattle.kinds.specs.Search.{first_fit}
 use Rattle.engine.specs.Codes.{codes_of, not_past}
-use Rattle.engine.proofs.Fits.{code_at, code_past, first_here, first_later, first_none, first_within, first_past, moves_on, shift_some}
+use Rattle.engine.proofs.Fits.{code_at, code_past, first_here, first_later, first_none, first_within, first_past, moves_on}
 use Rattle.engine.proofs.scan.next_fit_up_to.Goals as goal
 
 pub returns-then-width-len : goal.returns-then-width-len
@@ -31,11 +32,6 @@ returns-in_err-beyond g c table =
     ∙ sym (first_later anchor codes place (sym c.if-fits.ensures))
     ∙ c.loop-place.invariant table)
 
-pub returns-then-shift-eq0 : goal.returns-then-shift-eq0
-returns-then-shift-eq0 g c table =
-    let index = c.from.result % 256 in
-    absurd (omega (arith, table index (omega arith), shift_some c.args.anchor.now index, c.if-shift-eq0.true))
-
 pub loop-place-preserved : goal.loop-place-preserved
 loop-place-preserved g c table =
     let anchor = c.args.anchor.now in
@@ -44,7 +40,8 @@ loop-place-preserved g c table =
     let place = c.loop-place.place in
     let code = code_at g.R.Element.Kind.alphabet xs (place + length anchor) c.in_ok-beyond.beyond (sym c.at.ensures ∙ c.in_ok-beyond.was) in
     let beyond = code ∙ sym c.code.ensures ∙ sym c.from.ensures in
-    sym (moves_on anchor codes c.args.shifts.now place c.from.result table (sym c.if-fits.ensures) beyond)
+    ap (λ d. first_fit anchor codes (place + d)) c.max.ensures
+    ∙ sym (moves_on anchor codes c.args.shifts.now place c.from.result table (sym c.if-fits.ensures) beyond)
     ∙ c.loop-place.invariant table
 
 pub returns : goal.returns

@@ -3,6 +3,9 @@
 
 usage: python3 tools/spell_names.py [--list]     at the top of the repository; --list prints the renamings and writes nothing
 
+It was run once, on what the toolchain's own script had made of the older state (docs/PORT.md), and stands here so that this can
+be done again and compared; nothing else calls it.
+
 A name is the repository's own where a file of specs/ or proofs/ declares it: a signature, a record's field, a constructor.
 What the toolchain declares keeps its dashes: the goals in proofs/F/, and the names of the library.
 """
@@ -28,7 +31,7 @@ OTHER = {
     "parts-within": "all_parts_within",
 }
 # The same name as it stands in specs/ and proofs/ already, where no dot makes it the field.
-TURNED = (re.compile(r"(?<![.\w-])parts_within(?![\w-])"), "all_parts_within")
+TURNED = (re.compile(r"(?<![.\w-])parts_within(?![\w-]| =)"), "all_parts_within")
 
 # Names that a parameter or the head of a clause binds.
 BOUND = set(

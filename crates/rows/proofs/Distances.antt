@@ -1,16 +1,17 @@
 -- Members moved on by some distance of a range: what `some-distance` says, and ranges joined and added.
-use Rattle.std.proofs.Common.{◌≡◌, ℕ, zero, suc, ◌+◌, ◌-◌, ◌*◌, ◌/◌, ◌<◌, ◌≤◌, min, Bool, true, false, ◌&&◌, ◌||◌, ltb, leb, ◌⊎◌, List, Decides, sym, refl, ap, ◌∙◌, ap₂, inl, inr, ⊎_elim, zero-add, arith}
+use Rattle.std.proofs.Common.{◌≡◌, ℕ, zero, suc, ◌+◌, ◌-◌, ◌*◌, ◌/◌, ◌<◌, ◌≤◌, min, Bool, true, false, ◌&&◌, ◌||◌, ltb, leb, ◌⊎◌, Decides, sym, refl, ap, ◌∙◌, ap₂, inl, inr, ⊎_elim, zero-add, arith}
 use Rattle.std.proofs.lemmas.Bool.{and_from, and_parts, and_right, both_ways, cases_Bool, cases_eq, cases_lt, le-leb, le-ltb, leb-true, lt-ltb, or_cases, or_left, or_right}
 use Rattle.std.proofs.lemmas.Bool.Decides.{Decides-like, Decides-or, same_from_decides}
+use Rattle.rows.specs.declared.Row.{Row}
 use Rattle.rows.specs.Rows.{member, moved, some_distance, NoneFrom}
 use Rattle.rows.proofs.Members.{member_past}
 
 -- some distance from `least` to `most` leads from a member to j
-abbrev pub Reached : List ℕ → ℕ → ℕ → ℕ → Type 0
+abbrev pub Reached : Row → ℕ → ℕ → ℕ → Type 0
 Reached row least most j = (d : ℕ) × (least ≤ d) × (d ≤ most) × (d ≤ j) × (member row (j - d) ≡ true)
 
 -- a distance that the test takes
-at_distance : (row : List ℕ) (least d j : ℕ) → (leb least d && moved row d j) ≡ true → (least ≤ d) × (d ≤ j) × (member row (j - d) ≡ true)
+at_distance : (row : Row) (least d j : ℕ) → (leb least d && moved row d j) ≡ true → (least ≤ d) × (d ≤ j) × (member row (j - d) ≡ true)
 unfolding moved
 at_distance row least d j e =
     let outer = and_parts (leb least d) (leb d j && member row (j - d)) e in
@@ -18,14 +19,14 @@ at_distance row least d j e =
     (leb-true least d outer.0, leb-true d j inner.0, inner.1)
 
 -- and the other way
-distance_at : (row : List ℕ) (least d j : ℕ) → least ≤ d → d ≤ j → member row (j - d) ≡ true → (leb least d && moved row d j) ≡ true
+distance_at : (row : Row) (least d j : ℕ) → least ≤ d → d ≤ j → member row (j - d) ≡ true → (leb least d && moved row d j) ≡ true
 unfolding moved
 distance_at row least d j l h m =
     and_from (leb least d) (leb d j && member row (j - d)) (le-leb least d l)
     (and_from (leb d j) (member row (j - d)) (le-leb d j h) m)
 
 -- what the test says where it is true
-pub reached : (row : List ℕ) (least most j : ℕ) → some_distance row least most j ≡ true → Reached row least most j
+pub reached : (row : Row) (least most j : ℕ) → some_distance row least most j ≡ true → Reached row least most j
 unfolding some_distance
 reached row least zero j e = let p = at_distance row least 0 j e in (0, p.0, omega arith, p.1, p.2)
 reached row least (suc most) j e =
@@ -35,7 +36,7 @@ reached row least (suc most) j e =
     (or_cases (leb least (suc most) && moved row (suc most) j) (some_distance row least most j) e)
 
 -- the test is true where a distance leads to j
-pub from_reached : (row : List ℕ) (least most j : ℕ) → Reached row least most j → some_distance row least most j ≡ true
+pub from_reached : (row : Row) (least most j : ℕ) → Reached row least most j → some_distance row least most j ≡ true
 unfolding some_distance
 from_reached row least zero j (d, l, h, s, m) =
     let e : d ≡ 0 = omega arith in
@@ -51,11 +52,11 @@ from_reached row least (suc most) j (d, l, h, s, m) =
     (cases_eq d (suc most))
 
 -- the test decides whether some distance leads to j
-pub decides_distance : (row : List ℕ) (least most j : ℕ) → Decides (some_distance row least most j) (Reached row least most j)
+pub decides_distance : (row : Row) (least most j : ℕ) → Decides (some_distance row least most j) (Reached row least most j)
 decides_distance row least most j = (reached row least most j, from_reached row least most j)
 
 -- one distance alone
-pub one_distance : (row : List ℕ) (d j : ℕ) → moved row d j ≡ some_distance row d d j
+pub one_distance : (row : Row) (d j : ℕ) → moved row d j ≡ some_distance row d d j
 unfolding moved
 one_distance row d j =
     same_from_decides (leb d j && member row (j - d)) (some_distance row d d j) (there, back) (decides_distance row d d j)
@@ -69,12 +70,12 @@ one_distance row d j =
         and_from (leb d j) (member row (j - d)) (le-leb d j (omega arith)) (ap (λ k. member row (j - k)) (sym e) ∙ m)
 
 -- no distance, where the most is below the least
-pub no_distance : (row : List ℕ) (least most j : ℕ) → most < least → some_distance row least most j ≡ false
+pub no_distance : (row : Row) (least most j : ℕ) → most < least → some_distance row least most j ≡ false
 no_distance row least most j h =
     ⊎_elim (λ e. let p = reached row least most j e in absurd (omega arith)) (λ e. e) (cases_Bool (some_distance row least most j))
 
 -- two ranges of distances that leave none out between them are one
-pub distances_joined : (row : List ℕ) (least m n most j : ℕ) → least ≤ n → n ≤ m + 1 → m ≤ most
+pub distances_joined : (row : Row) (least m n most j : ℕ) → least ≤ n → n ≤ m + 1 → m ≤ most
     → (some_distance row least m j || some_distance row n most j) ≡ some_distance row least most j
 distances_joined row least m n most j ln nm mm =
     same_from_decides (some_distance row least m j || some_distance row n most j) (some_distance row least most j)
@@ -90,7 +91,7 @@ distances_joined row least m n most j ln nm mm =
     back (d, l, h, s, e) = ⊎_elim (λ k. inl (d, l, omega arith, s, e)) (λ k. inr (d, omega arith, h, s, e)) (cases_lt d (m + 1))
 
 -- distances from 1,024 on lead to no offset below 1,024
-pub distances_capped : (row : List ℕ) (least most j : ℕ) → j < 1024
+pub distances_capped : (row : Row) (least most j : ℕ) → j < 1024
     → some_distance row least (min most 1023) j ≡ some_distance row least most j
 distances_capped row least most j h =
     same_from_decides (some_distance row least (min most 1023) j) (some_distance row least most j)
@@ -100,7 +101,7 @@ distances_capped row least most j h =
     (decides_distance row least most j)
 
 -- a row spread over one range and then over another is spread over the sums of their distances
-pub distances_added : (row more : List ℕ) (a b c d : ℕ) → a ≤ b → c ≤ d
+pub distances_added : (row more : Row) (a b c d : ℕ) → a ≤ b → c ≤ d
     → ((i : ℕ) → member more i ≡ (ltb i 1024 && some_distance row a b i))
     → (j : ℕ) → j < 1024 → some_distance more c d j ≡ some_distance row (a + c) (b + d) j
 distances_added row more a b c d ab cd is j h =
@@ -134,12 +135,12 @@ within x y same j =
     (cases_lt j 1024)
 
 -- a row moved on by one distance, as a range of one
-pub spread_one : (row more : List ℕ) (d : ℕ) → ((j : ℕ) → member more j ≡ (ltb j 1024 && moved row d j))
+pub spread_one : (row more : Row) (d : ℕ) → ((j : ℕ) → member more j ≡ (ltb j 1024 && moved row d j))
     → (j : ℕ) → member more j ≡ (ltb j 1024 && some_distance row d d j)
 spread_one row more d is j = is j ∙ ap (λ t. ltb j 1024 && t) (one_distance row d j)
 
 -- a row itself is moved on by 0
-pub moved_none : (row : List ℕ) (j : ℕ) → member row j ≡ (ltb j 1024 && moved row 0 j)
+pub moved_none : (row : Row) (j : ℕ) → member row j ≡ (ltb j 1024 && moved row 0 j)
 unfolding moved
 moved_none row j = ⊎_elim below (λ h. member_past row j h ∙ sym (ap (λ t. t && moved row 0 j) (le-ltb j 1024 h))) (cases_lt j 1024)
   where
@@ -149,11 +150,11 @@ moved_none row j = ⊎_elim below (λ h. member_past row j h ∙ sym (ap (λ t. 
         sym (ap₂ (λ s t. s && (t && member row (j - 0))) (lt-ltb j 1024 h) (le-leb 0 j (omega arith)) ∙ ap (member row) e)
 
 -- and so by each distance from 0 to 0
-pub smear_none : (row : List ℕ) (j : ℕ) → member row j ≡ (ltb j 1024 && some_distance row 0 0 j)
+pub smear_none : (row : Row) (j : ℕ) → member row j ≡ (ltb j 1024 && some_distance row 0 0 j)
 smear_none row = spread_one row row 0 (moved_none row)
 
 -- a row moved on by 0 to `done`, joined with that moved on by `step` more
-pub smear_more : (row all more : List ℕ) (done step : ℕ) → step ≤ done + 1
+pub smear_more : (row all more : Row) (done step : ℕ) → step ≤ done + 1
     → ((j : ℕ) → member all j ≡ (ltb j 1024 && some_distance row 0 done j))
     → ((j : ℕ) → member more j ≡ (member all j || (ltb j 1024 && moved all step j)))
     → (j : ℕ) → member more j ≡ (ltb j 1024 && some_distance row 0 (done + step) j)
@@ -172,7 +173,7 @@ smear_more row all more done step h alls mores j =
         ∙ distances_joined row 0 done step (done + step) i (omega arith) h (omega arith)
 
 -- nothing comes to stand past the words that have members and `reach`
-pub smear_past : (row all : List ℕ) (n reach done step j : ℕ) → NoneFrom row (64 * n) → done + step ≤ reach
+pub smear_past : (row all : Row) (n reach done step j : ℕ) → NoneFrom row (64 * n) → done + step ≤ reach
     → ((i : ℕ) → member all i ≡ (ltb i 1024 && some_distance row 0 done i))
     → 64 * (n + reach / 64 + 1) ≤ j → moved all step j ≡ false
 unfolding moved NoneFrom
@@ -188,7 +189,7 @@ smear_past row all n reach done step j none h alls far =
         both_ways (member row (j - step - back.0)) (none (j - step - back.0) (omega arith)) back.4
 
 -- so that only the words before `end` need be joined
-pub smear_short : (row all : List ℕ) (n reach done step end : ℕ) → NoneFrom row (64 * n) → done + step ≤ reach
+pub smear_short : (row all : Row) (n reach done step end : ℕ) → NoneFrom row (64 * n) → done + step ≤ reach
     → ((i : ℕ) → member all i ≡ (ltb i 1024 && some_distance row 0 done i)) → end ≡ min (n + reach / 64 + 1) 16
     → (j : ℕ) → (member all j || (ltb j (64 * end) && moved all step j)) ≡ (member all j || (ltb j 1024 && moved all step j))
 smear_short row all n reach done step end none h alls is j =
@@ -209,7 +210,7 @@ smear_short row all n reach done step end none h alls is j =
     beyond k = ap (λ t. t && moved all step j) (le-ltb j (64 * end) (omega arith) ∙ sym (le-ltb j 1024 k))
 
 -- a row moved on by `least`, and that by each distance from 0 to the rest of the range that is below 1,024
-pub spread_more : (row moved_on more : List ℕ) (least most reach : ℕ) → least ≤ most → reach ≡ min (most - least) 1023
+pub spread_more : (row moved_on more : Row) (least most reach : ℕ) → least ≤ most → reach ≡ min (most - least) 1023
     → ((j : ℕ) → member moved_on j ≡ (ltb j 1024 && moved row least j))
     → ((j : ℕ) → member more j ≡ (ltb j 1024 && some_distance moved_on 0 reach j))
     → (j : ℕ) → member more j ≡ (ltb j 1024 && some_distance row least most j)

@@ -1,8 +1,9 @@
 -- The least member from an offset on, by the trailing zeros of a word.
-use Rattle.std.proofs.Common.{◌≡◌, ℕ, ◌+◌, ◌-◌, ◌*◌, ◌/◌, ◌%◌, ◌^◌, ◌<◌, ◌≤◌, Bool, true, false, not, List, get_or, is_some, Some, None, MatchBool, Option, sym, ap, ◌∙◌, ap₂, ⊎_elim, lt_of_lt_of_le, arith, pow_mono, MatchOption}
+use Rattle.std.proofs.Common.{◌≡◌, ℕ, ◌+◌, ◌-◌, ◌*◌, ◌/◌, ◌%◌, ◌^◌, ◌<◌, ◌≤◌, Bool, true, false, not, get_or, is_some, Some, None, MatchBool, Option, sym, ap, ◌∙◌, ap₂, ⊎_elim, lt_of_lt_of_le, arith, pow_mono, MatchOption}
 use lib.Count.{count_trailing_zeros}
 use lib.Pow.{shr_le}
 use Rattle.std.proofs.lemmas.Bool.{both_ways, cases_lt, false≢true, true≢false}
+use Rattle.rows.specs.declared.Row.{Row}
 use Rattle.rows.specs.Rows.{bit, member, FirstFrom, NoneFrom}
 use Rattle.rows.proofs.Members.{member_bit}
 use Rattle.rows.proofs.Words.{bit_of_zero, bit_past, bit_shr, trailing_below, trailing_bit}
@@ -46,18 +47,18 @@ no_bit w s b z h =
     ap (bit w) (sym e) ∙ sym (bit_shr w s (b - s)) ∙ ap (λ n. bit n (b - s)) z ∙ bit_of_zero (b - s)
 
 -- a member, by its word and bit
-member_at : (row : List ℕ) (i b j : ℕ) → i < 16 → b < 64 → j ≡ 64 * i + b → member row j ≡ bit (get_or row i 0) b
+member_at : (row : Row) (i b j : ℕ) → i < 16 → b < 64 → j ≡ 64 * i + b → member row j ≡ bit (get_or row.words i 0) b
 member_at row i b j h l e =
     let d : j / 64 ≡ i = omega arith in
     let m : j % 64 ≡ b = omega arith in
-    member_bit row j (omega arith) ∙ ap₂ (λ x y. bit (get_or row x 0) y) d m
+    member_bit row j (omega arith) ∙ ap₂ (λ x y. bit (get_or row.words x 0) y) d m
 
 -- the least member from `start` on is in word i, from its bit s on, if none stands before that bit
-pub first_in : (row : List ℕ) (start i s v base : ℕ) → i < 16 → s < 64 → base ≡ 64 * i + s → get_or row i 0 < 2 ^ 64
-    → v ≡ get_or row i 0 / 2 ^ s → 0 < v → start ≤ base → ((j : ℕ) → start ≤ j → j < base → member row j ≡ false)
+pub first_in : (row : Row) (start i s v base : ℕ) → i < 16 → s < 64 → base ≡ 64 * i + s → get_or row.words i 0 < 2 ^ 64
+    → v ≡ get_or row.words i 0 / 2 ^ s → 0 < v → start ≤ base → ((j : ℕ) → start ≤ j → j < base → member row j ≡ false)
     → FirstFrom row start (base + count_trailing_zeros 64 v)
 first_in row start i s v base hi hs eb fits is p le none =
-    let low = lowest (get_or row i 0) v s fits is p in
+    let low = lowest (get_or row.words i 0) v s fits is p in
     record {
       held = member_at row i (s + t) (base + t) hi low.inside (omega arith) ∙ low.held;
       reached = omega arith;
@@ -67,22 +68,22 @@ first_in row start i s v base hi hs eb fits is p le none =
     t : ℕ
     t = count_trailing_zeros 64 v
 
-    past : Lowest (get_or row i 0) s (s + t) → (j : ℕ) → j < base + t → base ≤ j → member row j ≡ false
+    past : Lowest (get_or row.words i 0) s (s + t) → (j : ℕ) → j < base + t → base ≤ j → member row j ≡ false
     past low j h l =
         let inside = low.inside in
         member_at row i (j - 64 * i) j hi (omega arith) (omega arith) ∙ low.before (j - 64 * i) (omega arith) (omega arith)
 
 -- no member is added by word i, from its bit s on, if those bits are not set
-pub none_more : (row : List ℕ) (start i s base : ℕ) → i < 16 → s < 64 → base ≡ 64 * i + s → get_or row i 0 / 2 ^ s ≡ 0
+pub none_more : (row : Row) (start i s base : ℕ) → i < 16 → s < 64 → base ≡ 64 * i + s → get_or row.words i 0 / 2 ^ s ≡ 0
     → ((j : ℕ) → start ≤ j → j < base → member row j ≡ false)
     → (j : ℕ) → start ≤ j → j < 64 * (i + 1) → member row j ≡ false
 none_more row start i s base hi hs eb z none j l h =
     ⊎_elim (none j l)
-    (λ k. member_at row i (j - 64 * i) j hi (omega arith) (omega arith) ∙ no_bit (get_or row i 0) s (j - 64 * i) z (omega arith))
+    (λ k. member_at row i (j - 64 * i) j hi (omega arith) (omega arith) ∙ no_bit (get_or row.words i 0) s (j - 64 * i) z (omega arith))
     (cases_lt j base)
 
 -- a search from 0 on says whether there is a member
-pub none_at_all : (row : List ℕ) (o : Option ℕ) (r : Bool) → MatchOption o (NoneFrom row 0) (FirstFrom row 0) → is_some o ≡ not r
+pub none_at_all : (row : Row) (o : Option ℕ) (r : Bool) → MatchOption o (NoneFrom row 0) (FirstFrom row 0) → is_some o ≡ not r
     → MatchBool r ((j : ℕ) → member row j ≡ false) ((j : ℕ) × (member row j ≡ true))
 unfolding NoneFrom
 none_at_all row None true h e = λ j. h j (omega arith)

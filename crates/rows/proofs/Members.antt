@@ -4,27 +4,28 @@ use lib.Bits.{bit_and, bit_or}
 use Rattle.std.proofs.lemmas.List.{get_or-replicate, get_or-set_other, get_or-set_same}
 use Rattle.std.proofs.lemmas.Bool.{both_ways, cases_eq, cases_lt, cases_order, le-leb, le-ltb, lt-leb, lt-ltb}
 use Rattle.std.proofs.lemmas.Bool.Decides.{nat_tests}
+use Rattle.rows.specs.declared.Row.{Row}
 use Rattle.rows.specs.Rows.{bit, member, moved}
 use Rattle.rows.proofs.Words.{bit_cut, bit_of_zero, bit_of_or, bit_single}
 
 -- no offset from 1,024 on is a member
-pub member_past : (row : List ℕ) (k : ℕ) → 1024 ≤ k → member row k ≡ false
+pub member_past : (row : Row) (k : ℕ) → 1024 ≤ k → member row k ≡ false
 unfolding member
-member_past row k h = ap (λ t. t && bit (get_or row (k / 64) 0) (k % 64)) (le-ltb k 1024 h)
+member_past row k h = ap (λ t. t && bit (get_or row.words (k / 64) 0) (k % 64)) (le-ltb k 1024 h)
 
 -- below 1,024 a member is a bit of a word
-pub member_bit : (row : List ℕ) (k : ℕ) → k < 1024 → member row k ≡ bit (get_or row (k / 64) 0) (k % 64)
+pub member_bit : (row : Row) (k : ℕ) → k < 1024 → member row k ≡ bit (get_or row.words (k / 64) 0) (k % 64)
 unfolding member
-member_bit row k h = ap (λ t. t && bit (get_or row (k / 64) 0) (k % 64)) (lt-ltb k 1024 h)
+member_bit row k h = ap (λ t. t && bit (get_or row.words (k / 64) 0) (k % 64)) (lt-ltb k 1024 h)
 
 -- a row has the members of `f` if each bit of its words is as `f` says
-pub by_words : (row : List ℕ) (f : ℕ → Bool) → ((j : ℕ) → j < 1024 → bit (get_or row (j / 64) 0) (j % 64) ≡ f j)
+pub by_words : (row : Row) (f : ℕ → Bool) → ((j : ℕ) → j < 1024 → bit (get_or row.words (j / 64) 0) (j % 64) ≡ f j)
     → ((j : ℕ) → 1024 ≤ j → f j ≡ false) → (j : ℕ) → member row j ≡ f j
 by_words row f below past j =
     ⊎_elim (λ h. member_bit row j h ∙ below j h) (λ h. member_past row j h ∙ sym (past j h)) (cases_lt j 1024)
 
 -- the same, where `f` may say more from 1,024 on
-pub by_words_below : (row : List ℕ) (f : ℕ → Bool) → ((j : ℕ) → j < 1024 → bit (get_or row (j / 64) 0) (j % 64) ≡ f j)
+pub by_words_below : (row : Row) (f : ℕ → Bool) → ((j : ℕ) → j < 1024 → bit (get_or row.words (j / 64) 0) (j % 64) ≡ f j)
     → (j : ℕ) → member row j ≡ (ltb j 1024 && f j)
 by_words_below row f below =
     by_words row (λ j. ltb j 1024 && f j) (λ j h. below j h ∙ ap (λ t. t && f j) (sym (lt-ltb j 1024 h)))
@@ -35,21 +36,21 @@ pub no_bits : (j : ℕ) → j < 1024 → bit (get_or (replicate 16 0) (j / 64) 0
 no_bits j h = ap (λ w. bit w (j % 64)) (get_or-replicate 16 (j / 64) 0 0 (omega arith)) ∙ bit_of_zero (j % 64)
 
 -- a bit of a row in which the word i has been written
-pub bit_after_set : (row : List ℕ) (i word j : ℕ) (x : Bool) → i < length row → (j / 64 ≡ i → bit word (j % 64) ≡ x)
-    → ((j / 64 ≡ i → ⊥) → bit (get_or row (j / 64) 0) (j % 64) ≡ x) → bit (get_or (set row i word) (j / 64) 0) (j % 64) ≡ x
-bit_after_set row i word j x h same other =
+pub bit_after_set : (words : List ℕ) (i word j : ℕ) (x : Bool) → i < length words → (j / 64 ≡ i → bit word (j % 64) ≡ x)
+    → ((j / 64 ≡ i → ⊥) → bit (get_or words (j / 64) 0) (j % 64) ≡ x) → bit (get_or (set words i word) (j / 64) 0) (j % 64) ≡ x
+bit_after_set words i word j x h same other =
     ⊎_elim
     (λ e.
-    ap (λ k. bit (get_or (set row i word) k 0) (j % 64)) e ∙ ap (λ w. bit w (j % 64)) (get_or-set_same row i word 0 h) ∙ same e)
-    (λ ne. ap (λ w. bit w (j % 64)) (get_or-set_other row i (j / 64) word 0 ne) ∙ other ne) (cases_eq (j / 64) i)
+    ap (λ k. bit (get_or (set words i word) k 0) (j % 64)) e ∙ ap (λ w. bit w (j % 64)) (get_or-set_same words i word 0 h) ∙ same e)
+    (λ ne. ap (λ w. bit w (j % 64)) (get_or-set_other words i (j / 64) word 0 ne) ∙ other ne) (cases_eq (j / 64) i)
 
 -- one bit more in the word that k falls in
-pub member_with : (row : List ℕ) (k : ℕ) → length row ≡ 16 → k < 1024
-    → (j : ℕ) → member (set row (k / 64) (bit_or (get_or row (k / 64) 0) ((1 * 2 ^ (k % 64)) % 2 ^ 64))) j ≡ (member row j || (ltb k 1024 && eqb j k))
-member_with row k len h = by_words (set row (k / 64) (bit_or old one)) more below past
+pub member_with : (row : Row) (k : ℕ) → length row.words ≡ 16 → k < 1024
+    → (j : ℕ) → member (record { words = set row.words (k / 64) (bit_or (get_or row.words (k / 64) 0) ((1 * 2 ^ (k % 64)) % 2 ^ 64)) }) j ≡ (member row j || (ltb k 1024 && eqb j k))
+member_with row k len h = by_words (record { words = set row.words (k / 64) (bit_or old one) }) more below past
   where
     old : ℕ
-    old = get_or row (k / 64) 0
+    old = get_or row.words (k / 64) 0
 
     one : ℕ
     one = (1 * 2 ^ (k % 64)) % 2 ^ 64
@@ -62,36 +63,36 @@ member_with row k len h = by_words (set row (k / 64) (bit_or old one)) more belo
 
     same : (j : ℕ) → j < 1024 → j / 64 ≡ k / 64 → bit (bit_or old one) (j % 64) ≡ more j
     same j l e =
-        let m : member row j ≡ bit old (j % 64) = member_bit row j l ∙ ap (λ i. bit (get_or row i 0) (j % 64)) e in
+        let m : member row j ≡ bit old (j % 64) = member_bit row j l ∙ ap (λ i. bit (get_or row.words i 0) (j % 64)) e in
         let s = bit_single (k % 64) (j % 64) (omega arith) in
         bit_of_or old one (j % 64) ∙ ap₂ ◌||◌ (sym m) (s ∙ grind (arith, nat_tests))
 
-    other : (j : ℕ) → j < 1024 → (j / 64 ≡ k / 64 → ⊥) → bit (get_or row (j / 64) 0) (j % 64) ≡ more j
+    other : (j : ℕ) → j < 1024 → (j / 64 ≡ k / 64 → ⊥) → bit (get_or row.words (j / 64) 0) (j % 64) ≡ more j
     other j l ne = let d : j ≡ k → ⊥ = λ e. ne (ap (λ i. i / 64) e) in sym (member_bit row j l) ∙ grind (arith, nat_tests)
 
-    below : (j : ℕ) → j < 1024 → bit (get_or (set row (k / 64) (bit_or old one)) (j / 64) 0) (j % 64) ≡ more j
-    below j l = bit_after_set row (k / 64) (bit_or old one) j (more j) (omega arith) (same j l) (other j l)
+    below : (j : ℕ) → j < 1024 → bit (get_or (set row.words (k / 64) (bit_or old one)) (j / 64) 0) (j % 64) ≡ more j
+    below j l = bit_after_set row.words (k / 64) (bit_or old one) j (more j) (omega arith) (same j l) (other j l)
 
 -- each word of a row is the bitwise or of two rows' words
-pub member_or : (a b row : List ℕ) → ((i : ℕ) → i < 16 → get_or row i 0 ≡ bit_or (get_or a i 0) (get_or b i 0))
+pub member_or : (a b row : Row) → ((i : ℕ) → i < 16 → get_or row.words i 0 ≡ bit_or (get_or a.words i 0) (get_or b.words i 0))
     → (j : ℕ) → member row j ≡ (member a j || member b j)
 member_or a b row words = by_words row (λ j. member a j || member b j) below past
   where
-    below : (j : ℕ) → j < 1024 → bit (get_or row (j / 64) 0) (j % 64) ≡ (member a j || member b j)
+    below : (j : ℕ) → j < 1024 → bit (get_or row.words (j / 64) 0) (j % 64) ≡ (member a j || member b j)
     below j l =
-        ap (λ w. bit w (j % 64)) (words (j / 64) (omega arith)) ∙ bit_of_or (get_or a (j / 64) 0) (get_or b (j / 64) 0) (j % 64)
+        ap (λ w. bit w (j % 64)) (words (j / 64) (omega arith)) ∙ bit_of_or (get_or a.words (j / 64) 0) (get_or b.words (j / 64) 0) (j % 64)
         ∙ ap₂ ◌||◌ (sym (member_bit a j l)) (sym (member_bit b j l))
 
     past : (j : ℕ) → 1024 ≤ j → (member a j || member b j) ≡ false
     past j l = ap₂ ◌||◌ (member_past a j l) (member_past b j l)
 
 -- a row whose words are all 0 has no member
-pub member_empty : (j : ℕ) → member (replicate 16 0) j ≡ false
-member_empty = by_words (replicate 16 0) (λ j. false) no_bits (λ j l. refl)
+pub member_empty : (j : ℕ) → member (record { words = replicate 16 0 }) j ≡ false
+member_empty = by_words (record { words = replicate 16 0 }) (λ j. false) no_bits (λ j l. refl)
 
 -- A word of a row moved on: `high` is the word that it comes from, and `low` the word below that, or 0 where there is none.
-pub moved_word : (row : List ℕ) (by j low high word : ℕ) → j < 1024 → by / 64 ≤ j / 64 → high ≡ get_or row (j / 64 - by / 64) 0
-    → (by / 64 < j / 64 → low ≡ get_or row (j / 64 - by / 64 - 1) 0) → (by / 64 ≡ j / 64 → low ≡ 0)
+pub moved_word : (row : Row) (by j low high word : ℕ) → j < 1024 → by / 64 ≤ j / 64 → high ≡ get_or row.words (j / 64 - by / 64) 0
+    → (by / 64 < j / 64 → low ≡ get_or row.words (j / 64 - by / 64 - 1) 0) → (by / 64 ≡ j / 64 → low ≡ 0)
     → ((b : ℕ) → bit word b ≡ (ltb b 64 && cond (ltb b (by % 64)) (bit low (64 - by % 64 + b)) (bit high (b - by % 64))))
     → bit word (j % 64) ≡ moved row by j
 unfolding moved
@@ -104,13 +105,13 @@ moved_word row by j low high word h l top under none bits =
         ≡ (leb by j && member row (j - by))
 
     -- the member at j - by, by its word and bit
-    from : (w b : ℕ) → by ≤ j → get_or row ((j - by) / 64) 0 ≡ w → (j - by) % 64 ≡ b → member row (j - by) ≡ bit w b
+    from : (w b : ℕ) → by ≤ j → get_or row.words ((j - by) / 64) 0 ≡ w → (j - by) % 64 ≡ b → member row (j - by) ≡ bit w b
     from w b k e f = member_bit row (j - by) (omega arith) ∙ ap₂ bit e f
 
     carried : j % 64 < by % 64 → by / 64 < j / 64 → Same
     carried s k =
         let e : (j - by) / 64 ≡ j / 64 - by / 64 - 1 = omega arith in
-        let m = from low (64 - by % 64 + j % 64) (omega arith) (ap (λ i. get_or row i 0) e ∙ sym (under k)) (omega arith) in
+        let m = from low (64 - by % 64 + j % 64) (omega arith) (ap (λ i. get_or row.words i 0) e ∙ sym (under k)) (omega arith) in
         grind (arith, nat_tests)
 
     nothing : j % 64 < by % 64 → by / 64 ≡ j / 64 → Same
@@ -122,31 +123,31 @@ moved_word row by j low high word h l top under none bits =
     own : by % 64 ≤ j % 64 → Same
     own s =
         let e : (j - by) / 64 ≡ j / 64 - by / 64 = omega arith in
-        let m = from high (j % 64 - by % 64) (omega arith) (ap (λ i. get_or row i 0) e ∙ sym top) (omega arith) in
+        let m = from high (j % 64 - by % 64) (omega arith) (ap (λ i. get_or row.words i 0) e ∙ sym top) (omega arith) in
         grind (arith, nat_tests)
 
 -- nothing is moved to below the distance
-pub moved_short : (row : List ℕ) (by j : ℕ) → j < by → moved row by j ≡ false
+pub moved_short : (row : Row) (by j : ℕ) → j < by → moved row by j ≡ false
 unfolding moved
 moved_short row by j h = ap (λ t. t && member row (j - by)) (lt-leb by j h)
 
 -- a row cut in the word that `last` falls in, with 0 in the words above
-pub member_cut : (row cut : List ℕ) (last : ℕ) → last < 1024 → ((k : ℕ) → k < last / 64 → get_or cut k 0 ≡ get_or row k 0)
-    → get_or cut (last / 64) 0 ≡ bit_and (get_or row (last / 64) 0) ((2 ^ 64 - 1) / 2 ^ (63 - last % 64))
-    → ((k : ℕ) → last / 64 < k → k < 16 → get_or cut k 0 ≡ 0) → (j : ℕ) → member cut j ≡ (leb j last && member row j)
+pub member_cut : (row cut : Row) (last : ℕ) → last < 1024 → ((k : ℕ) → k < last / 64 → get_or cut.words k 0 ≡ get_or row.words k 0)
+    → get_or cut.words (last / 64) 0 ≡ bit_and (get_or row.words (last / 64) 0) ((2 ^ 64 - 1) / 2 ^ (63 - last % 64))
+    → ((k : ℕ) → last / 64 < k → k < 16 → get_or cut.words k 0 ≡ 0) → (j : ℕ) → member cut j ≡ (leb j last && member row j)
 member_cut row cut last h lower edge upper = by_words cut (λ j. leb j last && member row j) below past
   where
     past : (j : ℕ) → 1024 ≤ j → (leb j last && member row j) ≡ false
     past j l = let m = member_past row j l in grind (arith, nat_tests)
 
-    below : (j : ℕ) → j < 1024 → bit (get_or cut (j / 64) 0) (j % 64) ≡ (leb j last && member row j)
+    below : (j : ℕ) → j < 1024 → bit (get_or cut.words (j / 64) 0) (j % 64) ≡ (leb j last && member row j)
     below j l =
         let m = member_bit row j l in
         ⊎_elim
         (λ e.
-        ap (λ k. bit (get_or cut k 0) (j % 64)) e ∙ ap (λ w. bit w (j % 64)) edge
-        ∙ bit_cut (get_or row (last / 64) 0) (last % 64) (j % 64) (omega arith)
-        ∙ ap₂ ◌&&◌ (grind (arith, nat_tests)) (ap (λ k. bit (get_or row k 0) (j % 64)) (sym e) ∙ sym m))
+        ap (λ k. bit (get_or cut.words k 0) (j % 64)) e ∙ ap (λ w. bit w (j % 64)) edge
+        ∙ bit_cut (get_or row.words (last / 64) 0) (last % 64) (j % 64) (omega arith)
+        ∙ ap₂ ◌&&◌ (grind (arith, nat_tests)) (ap (λ k. bit (get_or row.words k 0) (j % 64)) (sym e) ∙ sym m))
         (⊎_elim
         (λ s. ap (λ w. bit w (j % 64)) (lower (j / 64) s) ∙ sym m ∙ ap (λ t. t && member row j) (sym (le-leb j last (omega arith))))
         (λ s.
@@ -155,11 +156,11 @@ member_cut row cut last h lower edge upper = by_words cut (λ j. leb j last && m
         (cases_order (j / 64) (last / 64))
 
 -- every member is at most 1,023
-pub member_all : (row : List ℕ) (last j : ℕ) → 1024 ≤ last → member row j ≡ (leb j last && member row j)
+pub member_all : (row : Row) (last j : ℕ) → 1024 ≤ last → member row j ≡ (leb j last && member row j)
 member_all row last j h =
     ⊎_elim (λ l. ap (λ t. t && member row j) (sym (le-leb j last (omega arith)))) (λ l. let m = member_past row j l in grind (arith, nat_tests))
     (cases_lt j 1024)
 
 -- a member is below 1,024
-pub member_below : (row : List ℕ) (k : ℕ) → member row k ≡ true → k < 1024
+pub member_below : (row : Row) (k : ℕ) → member row k ≡ true → k < 1024
 member_below row k e = ⊎_elim (λ h. h) (λ h. absurd (both_ways (member row k) (member_past row k h) e)) (cases_lt k 1024)

@@ -1,6 +1,0 @@
--- Every word is 0.
-use Rattle.rows.proofs.Members.{member_empty}
-use Rattle.rows.proofs.none.Goals as goal
-
-pub returns : goal.returns
-returns c = member_empty

@@ -1,9 +1,0 @@
--- The words before i are joined, and the rest are as they were.
-use Rattle.std.proofs.Common.{◌≡◌, ℕ, ◌<◌, ◌≤◌, length, get_or}
-use lib.Bits.{bit_or}
-use Rattle.rows.proofs.union.Given as goal
-
-abbrev pub invariant-loop-i : goal.invariant-loop-i
-invariant-loop-i l =
-    (length l.a ≡ 16) × ((k : ℕ) → k < l.i → get_or l.a k 0 ≡ bit_or (get_or l.initial.a k 0) (get_or l.b k 0))
-    × ((k : ℕ) → l.i ≤ k → get_or l.a k 0 ≡ get_or l.initial.a k 0)

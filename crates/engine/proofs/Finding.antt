@@ -1,27 +1,18 @@
 -- The least end through one place of an anchor, from the rows of what is reached on both sides of it.
-use Rattle.std.proofs.Common.{◌≡◌, ℕ, ◌+◌, ◌-◌, ◌<◌, ◌≤◌, true, ◌&&◌, ltb, leb, List, reverse, length, take, drop, Some, None, vec_items, Decides, Option, sym, ap, ◌∙◌, subst, ap₂, ⊎_elim, arith}
+use Rattle.std.proofs.Common.{◌≡◌, ℕ, ◌+◌, ◌-◌, ◌<◌, ◌≤◌, true, ◌&&◌, ltb, leb, List, reverse, length, take, drop, Some, None, Decides, Option, sym, ap, ◌∙◌, subst, ap₂, ⊎_elim, arith}
 use Rattle.std.specs.List.{AllByRecursion as All}
 use Rattle.std.proofs.lemmas.Bool.{both_ways, leb-true, le-leb, lt-ltb, and_parts, cases_lt}
-use Rattle.kinds.specs.Fragments.{Anchor, bodies}
+use Rattle.kinds.specs.Fragments.{Anchor}
 use Rattle.kinds.specs.Grammar.{Placed}
 use Rattle.kinds.specs.Patterns.{Item, AtMost, mirrored}
 use Rattle.kinds.specs.Search.{stands_at}
 use Rattle.kinds.proofs.Anchors.{Bounded, sum_span, spans_at_most, stands_decides, reach_left, reach_right, reach_on, ends_left}
 use Rattle.kinds.proofs.Searches.{Spans, Ends}
 use Rattle.rows.specs.Rows.{member, NoneFrom, FirstFrom}
+use Rattle.rows.specs.declared.Row.{Row}
 use Rattle.engine.specs.Finding.{Reached, part_of, Start, Sides, LeastThrough}
 use Rattle.engine.specs.Reading.{held}
-use Rattle.engine.specs.Stored.{items}
 use Rattle.engine.specs.declared.fragment.Fragment.{Fragment}
-use Rattle.engine.specs.declared.pattern.Pattern.{Pattern}
-use Rattle.engine.proofs.Assembling.{items_between}
-
--- what the parts from one place to another reach, as items of the pattern
-pub reached_held : (p : Pattern) (from to : ℕ) (xs row : List ℕ)
-    → Reached (bodies (items (vec_items p.codes) (vec_items p.runs) (take (to - from) (drop from (vec_items p.parts))))) xs row
-    → Reached (part_of (held p) from to) xs row
-reached_held p from to xs row =
-    subst (λ is. Reached is xs row) (ap bodies (items_between (vec_items p.codes) (vec_items p.runs) (vec_items p.parts) from (to - from)))
 
 -- Starts.
 
@@ -37,13 +28,13 @@ not_past_bound place d (Some until) inside = (λ h. omega arith, λ h. omega ari
 not_past_bound place d None inside = (λ h. omega arith, λ h. tt)
 
 -- a row without a member from the least distance on has no start
-pub no_start : (row : List ℕ) (place from : ℕ) (until : Option ℕ) → NoneFrom row (least_distance place until) → Start row place from until → ⊥
+pub no_start : (row : Row) (place from : ℕ) (until : Option ℕ) → NoneFrom row (least_distance place until) → Start row place from until → ⊥
 unfolding NoneFrom
 no_start row place from until none s =
     both_ways _ (none s.distance ((not_past_bound place s.distance until s.inside).0 s.early)) s.held
 
 -- a row with a first member from the least distance on has a start exactly when that one is near enough
-pub first_start : (row : List ℕ) (place from : ℕ) (until : Option ℕ) (d : ℕ) → from ≤ place → FirstFrom row (least_distance place until) d
+pub first_start : (row : Row) (place from : ℕ) (until : Option ℕ) (d : ℕ) → from ≤ place → FirstFrom row (least_distance place until) d
     → Decides (leb d (place - from)) (Start row place from until)
 first_start row place from until d ordered first = (
   λ y.
@@ -65,7 +56,7 @@ first_start row place from until d ordered first = (
 
 -- What is reached before the anchor.
 
-module _ (front : List Item) (xs : List ℕ) (p from : ℕ) (until : Option ℕ) (row : List ℕ) (within : p ≤ length xs) (reached : Reached (mirrored front) (reverse (take p xs)) row) where
+module _ (front : List Item) (xs : List ℕ) (p from : ℕ) (until : Option ℕ) (row : Row) (within : p ≤ length xs) (reached : Reached (mirrored front) (reverse (take p xs)) row) where
   -- a start is one of what stands before the anchor
   start_ends : Start row p from until → Ends front from until xs p
   start_ends s =
@@ -90,7 +81,7 @@ module _ (front : List Item) (xs : List ℕ) (p from : ℕ) (until : Option ℕ)
 
 -- What is reached behind the anchor.
 
-module _ (back : List Item) (xs : List ℕ) (b : ℕ) (row : List ℕ) (within : b ≤ length xs) (reached : Reached back (drop b xs) row) where
+module _ (back : List Item) (xs : List ℕ) (b : ℕ) (row : Row) (within : b ≤ length xs) (reached : Reached back (drop b xs) row) where
   -- a member is how far the items span
   member_spans : (k : ℕ) → member row k ≡ true → Spans back xs b (b + k)
   member_spans k held =
@@ -135,12 +126,12 @@ module _ (qs mirror : List Placed) (f : Fragment) (a : Anchor) (sides : Sides qs
   end_inside = ((stands_decides a.codes xs p).0 stands).0
 
   -- a row of the mirrored items is one of what stands before the anchor
-  before : (row : List ℕ) (m n : ℕ) → m ≡ length mirror - f.anchor → n ≡ length mirror - f.first
+  before : (row : Row) (m n : ℕ) → m ≡ length mirror - f.anchor → n ≡ length mirror - f.first
       → Reached (part_of mirror m n) (reverse (take p xs)) row → Reached (mirrored a.front) (reverse (take p xs)) row
   before row m n d e = subst (λ is. Reached is (reverse (take p xs)) row) (ap₂ (part_of mirror) d e ∙ sides.before)
 
   -- a row of the items from behind the anchor on is one of what stands there
-  behind : (row : List ℕ) (b : ℕ) → b ≡ p + f.len
+  behind : (row : Row) (b : ℕ) → b ≡ p + f.len
       → Reached (part_of qs (f.anchor + f.len) f.end) (drop b xs) row → Reached a.back (drop (p + length a.codes) xs) row
   behind row b d h =
       let there : b ≡ p + length a.codes = d ∙ ap (λ n. p + n) sides.len in
@@ -156,19 +147,19 @@ module _ (qs mirror : List Placed) (f : Fragment) (a : Anchor) (sides : Sides qs
   back_short = omega (arith, sides.small.short, sides.len, sides.some)
 
   -- where there is no start, nothing ends through the anchor
-  pub through_no_start : (row : List ℕ) (m n : ℕ) → m ≡ length mirror - f.anchor → n ≡ length mirror - f.first
+  pub through_no_start : (row : Row) (m n : ℕ) → m ≡ length mirror - f.anchor → n ≡ length mirror - f.first
       → Reached (part_of mirror m n) (reverse (take p xs)) row → (Start row p from until → ⊥) → LeastThrough a from until xs p None
   through_no_start row m n d e reached none =
       λ end h. none (ends_start a.front xs p from until row place_inside (before row m n d e reached) sides.small.front_bounded front_short h.before)
 
   -- where nothing is reached behind it, neither
-  pub through_no_end : (row : List ℕ) (b : ℕ) → b ≡ p + f.len
+  pub through_no_end : (row : Row) (b : ℕ) → b ≡ p + f.len
       → Reached (part_of qs (f.anchor + f.len) f.end) (drop b xs) row → NoneFrom row 0 → LeastThrough a from until xs p None
   through_no_end row b d reached none =
       λ end h. none_spans a.back xs (p + length a.codes) row end_inside (behind row b d reached) sides.small.back_bounded back_short none end h.behind
 
   -- else the first member of the row behind it gives the least end
-  pub through_first : (left right : List ℕ) (m n b k : ℕ) → m ≡ length mirror - f.anchor → n ≡ length mirror - f.first → b ≡ p + f.len
+  pub through_first : (left right : Row) (m n b k : ℕ) → m ≡ length mirror - f.anchor → n ≡ length mirror - f.first → b ≡ p + f.len
       → Reached (part_of mirror m n) (reverse (take p xs)) left → Start left p from until
       → Reached (part_of qs (f.anchor + f.len) f.end) (drop b xs) right → FirstFrom right 0 k
       → (end : ℕ) → end ≡ b + k → LeastThrough a from until xs p (Some end)

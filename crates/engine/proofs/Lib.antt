@@ -19,9 +19,9 @@ pub mod Reaching
 pub mod Runs
 pub mod Scans
 pub mod Searching
-pub mod Seen
 pub mod Shifting
 pub mod Shows
+pub mod Sides
 pub mod Sounds
 pub mod Steps
 pub mod Tallies

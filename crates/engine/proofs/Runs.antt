@@ -10,7 +10,7 @@ use Rattle.kinds.specs.declared.pattern.Direction.TheVariants.{FirstOn, LastOn}
 use Rattle.kinds.proofs.Decisions.{same_decides}
 use Rattle.engine.specs.Stored.{run_codes, run_within, all_runs_within, part_within, all_parts_within}
 use Rattle.engine.specs.Tallies.{longest_run}
-use Rattle.engine.specs.Views.{position}
+use Rattle.engine.specs.Reaching.{position}
 use Rattle.engine.specs.declared.part.PlacedPart.{PlacedPart}
 use Rattle.engine.specs.declared.run.Run.{Run}
 

@@ -7,10 +7,11 @@ use Rattle.kinds.specs.Search.{reaches}
 use Rattle.kinds.proofs.Anchors.{Anchored, SmallParts}
 use Rattle.kinds.proofs.Searches.{Spans}
 use Rattle.rows.specs.Rows.{member}
+use Rattle.rows.specs.declared.Row.{Row}
 use Rattle.engine.specs.declared.fragment.Fragment.{Fragment}
 
 -- a row has as members the offsets below 1,024 that items reach
-abbrev pub Reached : List Item → List ℕ → List ℕ → Type 0
+abbrev pub Reached : List Item → List ℕ → Row → Type 0
 Reached items xs row = (j : ℕ) → member row j ≡ (nat_lt j 1024 && reaches items xs j)
 
 -- the items from one place to before another
@@ -18,7 +19,7 @@ abbrev pub part_of : List Placed → ℕ → ℕ → List Item
 part_of qs from to = bodies (take (to - from) (drop from qs))
 
 -- a member of a row that leads from a place back to a start from `from` to `until`
-pub record Start (row : List ℕ) (place from : ℕ) (until : Option ℕ) : Type 0 where
+pub record Start (row : Row) (place from : ℕ) (until : Option ℕ) : Type 0 where
   pub distance : ℕ
   pub held : member row distance ≡ true
   pub inside : distance ≤ place

@@ -6,12 +6,13 @@ pub mod Examples
 pub mod Faults
 pub mod Finding
 pub mod Limits
+pub mod Reaching
 pub mod Reading
 pub mod Scanning
 pub mod Searched
 pub mod Sequences
+pub mod Sides
 pub mod Stored
 pub mod Tallies
 pub mod Tokens
 pub mod Turned
-pub mod Views

@@ -15,13 +15,14 @@ ghost use Rattle.kinds.specs.Search.{least_end, stands_at};
 ghost use Rattle.kinds.specs.declared.pattern.Reference.{Reference};
 
 use crate::fragment::Fragment;
+use crate::lent::{Prefix, Suffix};
 use crate::part::{Part, PlacedPart};
 use crate::pattern::Pattern;
 use crate::reach::reach;
 use crate::scan::next_fit_up_to;
-use crate::view::View;
+use kinds::backward::Backward;
 use kinds::reading::Reading;
-use rows::{Row, first_from};
+use rows::Row;
 
 // The most codes that an anchor has.
 const LONGEST: usize = 1024;
@@ -65,7 +66,7 @@ fn starts(row: &Row, place: u64, from: u64, until: Option<u64>) -> bool
         Some(until) => place.saturating_sub(until),
         None => 0,
     };
-    match first_from(row, least as usize) {
+    match row.first_from(least as usize) {
         Some(distance) => distance as u64 <= place - from,
         None => false,
     }
@@ -86,23 +87,21 @@ fn end_through<R: Reading>(
 {
     let count = mirror.parts.len();
     let first = count.saturating_sub(fragment.first);
-    let back = View {
+    let back = Backward::new(Prefix {
         reading,
-        base: place,
-        back: true,
-    };
+        end: place,
+    });
     let before = reach(mirror, count.saturating_sub(fragment.anchor), first, &back);
     if !starts(&before, u64::from(place), from, until) {
         return None;
     }
     let base = place.saturating_add(fragment.len as u32);
-    let on = View {
+    let on = Suffix {
         reading,
-        base,
-        back: false,
+        start: base,
     };
     let behind = reach(pattern, fragment.anchor + fragment.len, fragment.end, &on);
-    match first_from(&behind, 0) {
+    match behind.first_from(0) {
         Some(far) => Some(u64::from(base) + far as u64),
         None => None,
     }

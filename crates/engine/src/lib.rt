@@ -24,4 +24,3 @@ mod store;
 pub mod text;
 pub mod theorems;
 pub mod token;
-mod view;

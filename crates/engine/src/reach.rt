@@ -1,21 +1,26 @@
-// How far items reach over what is seen of a reading, as rows of offsets.
-ghost use Rattle.std.specs.Prelude.{◌≡◌, ℕ, ◌+◌, ◌-◌, ◌<◌, ◌≤◌, true, ◌&&◌, List, map, length, take, drop, vec_len, nat_lt};
-ghost use Rattle.engine.specs.Stored.{item_of, items, part_within, run_codes, all_runs_within};
-ghost use Rattle.engine.specs.Views.{matches_at, order, position as compared_after, seen, Stepped};
-ghost use Rattle.kinds.specs.Fragments.{bodies};
-ghost use Rattle.kinds.specs.Patterns.{any, between, compared, gap as spaced, group, literal, range};
-ghost use Rattle.kinds.specs.Search.{reaches, stretch};
-ghost use Rattle.rows.specs.Rows.{member};
+// How far items reach over a reading, as rows of offsets.
+ghost use Rattle.std.specs.Prelude.{◌≡◌, ℕ, ◌+◌, ◌<◌, ◌≤◌, true, false, List, map, length, vec_len};
+ghost use Rattle.std.specs.Cmp.Lexicographic.{slice_cmp};
+ghost use Rattle.std.specs.List.{slice_get};
+ghost use Rattle.std.specs.Ordering.{nat_cmp};
+ghost use Rattle.engine.specs.Codes.{codes_of};
+ghost use Rattle.engine.specs.Finding.{Reached, part_of};
+ghost use Rattle.engine.specs.Reading.{held};
+ghost use Rattle.engine.specs.Stored.{item_of, part_within, run_codes, all_runs_within};
+ghost use Rattle.engine.specs.Reaching.{matches_at, range_item, Stepped};
+ghost use Rattle.kinds.specs.Patterns.{any, compared, gap as spaced, group, literal, matches, range};
+ghost use Rattle.kinds.specs.Search.{stretch};
+ghost use Rattle.kinds.specs.declared.pattern.Direction.TheVariants.{FirstOn};
 
 use crate::limits::codes_of;
 use crate::part::Part;
 use crate::pattern::Pattern;
 use crate::run::Run;
 use crate::token::Gap;
-use crate::view::View;
+use kinds::kind::Kind;
 use kinds::pattern::Direction;
 use kinds::reading::Reading;
-use rows::{Question, Row, cut, is_none, keep, kept, none, shift, shifted, union, widen, with};
+use rows::{Question, Row};
 use std::cmp::Ordering;
 
 // The largest offset.
@@ -25,181 +30,158 @@ const LAST: usize = 1023;
 fn pass_gap(gap: Gap, row: &mut Row, len: u32)
     ensures { (xs : List ℕ) → length xs ≡ len → Stepped (spaced gap.least gap.most) row.old xs row.new }
 {
-    let most = match gap.most {
-        Some(most) => usize::from(most),
-        None => LAST,
-    };
-    widen(row, usize::from(gap.least), most);
-    cut(row, len as usize);
+    let most = gap.most.map_or(LAST, usize::from);
+    row.widen(usize::from(gap.least), most);
+    row.cut(len as usize);
 }
 
 // Moves a row on behind any one element.
 fn pass_any(row: &mut Row, len: u32)
     ensures { (xs : List ℕ) → length xs ≡ len → Stepped any row.old xs row.new }
 {
-    shift(row, 1);
-    cut(row, len as usize);
+    row.shift(1);
+    row.cut(len as usize);
 }
 
-// Where a comparison of `len` codes is after i codes.
-fn position(direction: Direction, len: usize, i: usize) -> usize
-    requires { i < len }
-    ensures { result ≡ compared_after direction len i }
+// The code of the element at a place.
+fn code_at<R: Reading>(reading: &R, place: u32) -> Option<u16>
+    ensures { result ≡ slice_get (codes_of R.Element.alphabet (R.elements reading.now)) place }
 {
-    match direction {
-        Direction::FirstOn => i,
-        Direction::LastOn => len - 1 - i,
+    reading.at(place).map(|element| element.code())
+}
+
+// The question whether a code stands at an offset.
+#[derive(Drop)]
+struct Standing<'r, R> {
+    code: u16,
+    reading: &'r R,
+}
+
+impl<'r, R: Reading> Question for Standing<'r, R> {
+    ghost asked = { λ s. matches_at (literal s.code) 1 (codes_of R.Element.alphabet (R.elements s.reading.now)) };
+
+    fn ask(&self, offset: usize) -> bool {
+        let Ok(place) = u32::try_from(offset) else {
+            return false;
+        };
+        code_at(self.reading, place) == Some(self.code)
     }
+}
+
+// Moves a row on behind a literal.
+fn pass_literal<R: Reading>(code: u16, row: &mut Row, reading: &R)
+    ensures { Stepped (literal code) row.old (codes_of R.Element.alphabet (R.elements reading.now)) row.new }
+{
+    row.keep(&Standing { code, reading });
+    row.shift(1);
 }
 
 // How the `len` codes at an offset compare with a run, from the first code on or from the last.
 fn compare<R: Reading>(
     direction: Direction,
-    view: &View<R>,
+    reading: &R,
     at: u32,
     len: u32,
     run: &[u16],
 ) -> Ordering
-    requires { at + len ≤ length (seen (map R.Element.alphabet.code (R.elements view.now.reading.now)) view.now.base view.now.back) }
-    ensures { result ≡ order (compared direction (stretch (seen (map R.Element.alphabet.code (R.elements view.now.reading.now)) view.now.base view.now.back) at (at + len))) (compared direction run.now) }
+    requires { at + len ≤ length (R.elements reading.now) }
+    ensures { result ≡ slice_cmp nat_cmp (compared direction (stretch (codes_of R.Element.alphabet (R.elements reading.now)) at (at + len))) (compared direction run.now) }
 {
-    let held = run.len();
-    for i in 0..held.min(len as usize) {
-        let here = at + position(direction, len as usize, i) as u32;
-        let there = position(direction, held, i);
-        let Some(code) = view.code(here) else {
-            unreachable()
+    let places = at..at + len;
+    let code = |place| code_at(reading, place);
+    match direction {
+        Direction::FirstOn => places.filter_map(code).cmp(run.iter().copied()),
+        Direction::LastOn => places.rev().filter_map(code).cmp(run.iter().rev().copied()),
+    }
+}
+
+// The runs of one length that lie from one to another, compared in a direction, or (false) those that do not.
+#[derive(Clone, Copy)]
+struct RunRange<'c> {
+    direction: Direction,
+    inside: bool,
+    low: &'c [u16],
+    high: &'c [u16],
+}
+
+impl<'c> RunRange<'c> {
+    // One run alone, or (false) all others of its length.
+    fn of_one(inside: bool, run: &'c [u16]) -> RunRange<'c>
+        ensures { range_item result ≡ range FirstOn inside run.now run.now }
+    {
+        RunRange {
+            direction: Direction::FirstOn,
+            inside,
+            low: run,
+            high: run,
+        }
+    }
+
+    // Whether the codes at an offset, as many as the runs have, are one of the runs.
+    fn stands_at<R: Reading>(&self, reading: &R, at: u32) -> bool
+        requires { at + length self.now.low.now ≤ length (R.elements reading.now) }
+        ensures { result ≡ matches (range_item self.now) (stretch (codes_of R.Element.alphabet (R.elements reading.now)) at (at + length self.now.low.now)) }
+    {
+        let len = self.low.len() as u32;
+        let between = compare(self.direction, reading, at, len, self.low).is_ge()
+            && compare(self.direction, reading, at, len, self.high).is_le();
+        between == self.inside
+    }
+
+    // Moves a row on behind the runs.
+    fn pass<R: Reading>(&self, row: &mut Row, reading: &R)
+        ensures { Stepped (range_item self.now) row.old (codes_of R.Element.alphabet (R.elements reading.now)) row.new }
+    {
+        let question = Ranging {
+            range: *self,
+            reading,
         };
-        if code != run[there] {
-            return code.cmp(&run[there]);
-        }
+        row.keep(&question);
+        row.shift(self.low.len());
     }
-    (len as usize).cmp(&held)
 }
 
-// Whether the codes at an offset, as many as `low` has, lie from `low` to `high`.
-fn lies_between<R: Reading>(
-    direction: Direction,
-    low: &[u16],
-    high: &[u16],
-    view: &View<R>,
-    at: u32,
-) -> bool
-    requires { at + length low.now ≤ length (seen (map R.Element.alphabet.code (R.elements view.now.reading.now)) view.now.base view.now.back) }
-    ensures { result ≡ between direction low.now high.now (stretch (seen (map R.Element.alphabet.code (R.elements view.now.reading.now)) view.now.base view.now.back) at (at + length low.now)) }
-{
-    let len = low.len() as u32;
-    compare(direction, view, at, len, low).is_ge()
-        && compare(direction, view, at, len, high).is_le()
-}
-
-// The question whether a code stands at an offset.
+// The question whether one of some runs stands at an offset.
 #[derive(Drop)]
-struct Standing<'v, 'r, R> {
-    code: u16,
-    view: &'v View<'r, R>,
+struct Ranging<'c, 'r, R> {
+    range: RunRange<'c>,
+    reading: &'r R,
 }
 
-impl<'v, 'r, R: Reading> Question for Standing<'v, 'r, R> {
-    ghost asked = { λ s. matches_at (literal s.code) 1 (seen (map R.Element.alphabet.code (R.elements s.view.now.reading.now)) s.view.now.base s.view.now.back) };
+impl<'c, 'r, R: Reading> Question for Ranging<'c, 'r, R> {
+    ghost asked = { λ s. matches_at (range_item s.range) (length s.range.low.now) (codes_of R.Element.alphabet (R.elements s.reading.now)) };
 
     fn ask(&self, offset: usize) -> bool {
-        if offset >= self.view.len() as usize {
-            return false;
-        }
-        match self.view.code(offset as u32) {
-            Some(code) => code == self.code,
-            None => false,
-        }
+        let end = offset.saturating_add(self.range.low.len());
+        end <= self.reading.len() as usize && self.range.stands_at(self.reading, offset as u32)
     }
 }
 
-// The question whether a range, or (false) what it leaves out, matches the codes at an offset, where there are enough.
-#[derive(Drop)]
-struct Ranging<'l, 'h, 'v, 'r, R> {
-    direction: Direction,
-    inside: bool,
-    low: &'l [u16],
-    high: &'h [u16],
-    view: &'v View<'r, R>,
-}
-
-impl<'l, 'h, 'v, 'r, R: Reading> Question for Ranging<'l, 'h, 'v, 'r, R> {
-    ghost asked = { λ s. matches_at (range s.direction s.inside s.low.now s.high.now) (length s.low.now) (seen (map R.Element.alphabet.code (R.elements s.view.now.reading.now)) s.view.now.base s.view.now.back) };
-
-    fn ask(&self, offset: usize) -> bool {
-        let seen = self.view.len() as usize;
-        if offset > seen || self.low.len() > seen - offset {
-            return false;
-        }
-        lies_between(
-            self.direction,
-            self.low,
-            self.high,
-            self.view,
-            offset as u32,
-        ) == self.inside
-    }
-}
-
-// Moves a row on behind a literal.
-fn pass_literal<R: Reading>(code: u16, row: &mut Row, view: &View<R>)
-    ensures { Stepped (literal code) row.old (seen (map R.Element.alphabet.code (R.elements view.now.reading.now)) view.now.base view.now.back) row.new }
-{
-    keep(row, &Standing { code, view });
-    shift(row, 1);
-}
-
-// The row behind a range, or behind what it leaves out.
-fn behind_range<R: Reading>(
-    direction: Direction,
-    inside: bool,
-    low: &[u16],
-    high: &[u16],
-    row: Row,
-    view: &View<R>,
-) -> Row
-    ensures { Stepped (range direction inside low.now high.now) row (seen (map R.Element.alphabet.code (R.elements view.now.reading.now)) view.now.base view.now.back) result }
-{
-    let question = Ranging {
-        direction,
-        inside,
-        low,
-        high,
-        view,
-    };
-    shifted(kept(row, &question), low.len())
-}
-
-// The row behind one of some runs.
-fn behind_group<R: Reading>(pattern: &Pattern, runs: &[Run], row: Row, view: &View<R>) -> Row
+// Moves a row on behind one of some runs.
+fn pass_group<R: Reading>(pattern: &Pattern, runs: &[Run], row: &mut Row, reading: &R)
     requires { all_runs_within pattern.now.codes.items runs.now ≡ true }
-    ensures { Stepped (group (map (run_codes pattern.now.codes.items) runs.now)) row (seen (map R.Element.alphabet.code (R.elements view.now.reading.now)) view.now.base view.now.back) result }
+    ensures { Stepped (group (map (run_codes pattern.now.codes.items) runs.now)) row.old (codes_of R.Element.alphabet (R.elements reading.now)) row.new }
 {
-    let mut all = none();
+    let mut all = Row::none();
     for run in runs {
-        let codes = codes_of(pattern, *run);
-        let more = union(
-            all,
-            behind_range(Direction::FirstOn, true, codes, codes, row, view),
-        );
-        all = more;
+        let mut on = *row;
+        RunRange::of_one(true, codes_of(pattern, *run)).pass(&mut on, reading);
+        all = all.union(on);
     }
-    all
+    *row = all;
 }
 
-// The row behind a part.
-fn step<R: Reading>(pattern: &Pattern, part: Part, mut row: Row, view: &View<R>) -> Row
+// Moves a row on behind a part.
+fn pass<R: Reading>(pattern: &Pattern, part: Part, row: &mut Row, reading: &R)
     requires { part_within pattern.now.codes.items pattern.now.runs.items part ≡ true }
-    ensures { Stepped (item_of pattern.now.codes.items pattern.now.runs.items part) row (seen (map R.Element.alphabet.code (R.elements view.now.reading.now)) view.now.base view.now.back) result }
+    ensures { Stepped (item_of pattern.now.codes.items pattern.now.runs.items part) row.old (codes_of R.Element.alphabet (R.elements reading.now)) row.new }
 {
     match part {
-        Part::Literal(code) => pass_literal(code, &mut row, view),
-        Part::Any => pass_any(&mut row, view.len()),
+        Part::Literal(code) => pass_literal(code, row, reading),
+        Part::Any => pass_any(row, reading.len()),
         Part::Group { first, count } => {
             let runs = &pattern.runs.as_slice()[first..first + count];
-            let next = behind_group(pattern, runs, row, view);
-            row = next;
+            pass_group(pattern, runs, row, reading);
         }
         Part::Range {
             direction,
@@ -207,33 +189,31 @@ fn step<R: Reading>(pattern: &Pattern, part: Part, mut row: Row, view: &View<R>)
             low,
             high,
         } => {
-            let (low, high) = (codes_of(pattern, low), codes_of(pattern, high));
-            let next = behind_range(direction, inside, low, high, row, view);
-            row = next;
+            let range = RunRange {
+                direction,
+                inside,
+                low: codes_of(pattern, low),
+                high: codes_of(pattern, high),
+            };
+            range.pass(row, reading);
         }
-        Part::Other(run) => {
-            let codes = codes_of(pattern, run);
-            let next = behind_range(Direction::FirstOn, false, codes, codes, row, view);
-            row = next;
-        }
-        Part::Gap(gap) => pass_gap(gap, &mut row, view.len()),
+        Part::Other(run) => RunRange::of_one(false, codes_of(pattern, run)).pass(row, reading),
+        Part::Gap(gap) => pass_gap(gap, row, reading.len()),
     }
-    row
 }
 
 // The offsets that the parts from `from` to before `to` reach.
-pub(crate) fn reach<R: Reading>(pattern: &Pattern, from: usize, to: usize, view: &View<R>) -> Row
+pub(crate) fn reach<R: Reading>(pattern: &Pattern, from: usize, to: usize, reading: &R) -> Row
     requires ordered { from ≤ to }
     requires inside { to ≤ vec_len pattern.now.parts }
-    ensures { (j : ℕ) → member result j ≡ (nat_lt j 1024 && reaches (bodies (items pattern.now.codes.items pattern.now.runs.items (take (to - from) (drop from pattern.now.parts.items)))) (seen (map R.Element.alphabet.code (R.elements view.now.reading.now)) view.now.base view.now.back) j) }
+    ensures { Reached (part_of (held pattern.now) from to) (codes_of R.Element.alphabet (R.elements reading.now)) result }
 {
-    let mut row = with(none(), 0);
+    let mut row = Row::none().with(0);
     for placed in &pattern.parts.as_slice()[from..to] {
-        if is_none(&row) {
-            return row;
+        if row.is_none() {
+            break;
         }
-        let next = step(pattern, placed.part, row, view);
-        row = next;
+        pass(pattern, placed.part, &mut row, reading);
     }
     row
 }

@@ -1,7 +1,7 @@
 use Rattle.std.proofs.Common.{◌≡◌, ◌≤◌, ltb, length, get_or, sym, ap, ◌∙◌, ap₂, arith}
 use Rattle.std.proofs.lemmas.List.{drop_all}
 use Rattle.kinds.specs.Patterns.{compared}
-use Rattle.engine.specs.Views.{position}
+use Rattle.engine.specs.Reaching.{position}
 use Rattle.engine.proofs.Runs.{strictly, before_strictly, length_compared, order_goes_on, order_decided}
 use Rattle.engine.proofs.limits.comes_before.Goals as goal
 use Rattle.engine.proofs.limits.comes_before.Goals.{Joined-direction, in-FirstOn, in-LastOn}

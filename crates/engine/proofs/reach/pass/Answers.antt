@@ -1,0 +1,48 @@
+use Rattle.std.proofs.Common.{◌≡◌, ◌+◌, ◌-◌, true, take, drop, vec_items, sym, ap, ◌∙◌, subst}
+use lib.ListN.{length-map}
+use Rattle.kinds.specs.Patterns.{matches, other}
+use Rattle.engine.specs.Codes.{codes_of}
+use Rattle.engine.specs.Stored.{item_of, all_runs_within}
+use Rattle.engine.specs.Reaching.{Stepped, range_item}
+use Rattle.engine.proofs.Growth.{runs_within_drop, runs_within_take}
+use Rattle.engine.proofs.Reaching.{alike, others}
+use Rattle.engine.proofs.reach.pass.Goals as goal
+
+pub pass_group-requires : goal.pass_group-requires
+pass_group-requires g c =
+    let codes = vec_items c.args.pattern.now.codes in
+    let runs = vec_items c.args.pattern.now.runs in
+    let first = c.in-Group.first in
+    let n = first + c.in-Group.count - first in
+    subst (λ rs. all_runs_within codes (take n (drop first rs)) ≡ true) (sym c.as_slice.ensures.value)
+    (runs_within_take codes n (drop first runs) (runs_within_drop codes first runs c.args.pattern.now.runs_within))
+
+pub returns-in-Literal : goal.returns-in-Literal
+returns-in-Literal g c =
+    let all = codes_of g.R.Element.Kind.alphabet (g.R.Reading.elements c.args.reading.now) in
+    subst (λ p. Stepped (item_of (vec_items c.args.pattern.now.codes) (vec_items c.args.pattern.now.runs) p) c.args.row.now all c.pass_literal.new.row) (sym c.in-Literal.is)
+    c.pass_literal.ensures
+
+pub returns-in-Any : goal.returns-in-Any
+returns-in-Any g c =
+    let elements = g.R.Reading.elements c.args.reading.now in
+    let code = g.R.Element.Kind.alphabet.code in
+    let all = codes_of g.R.Element.Kind.alphabet elements in
+    subst (λ p. Stepped (item_of (vec_items c.args.pattern.now.codes) (vec_items c.args.pattern.now.runs) p) c.args.row.now all c.pass_any.new.row) (sym c.in-Any.is)
+    (c.pass_any.ensures all (length-map elements code ∙ sym c.len.ensures))
+
+pub returns-in-Other : goal.returns-in-Other
+returns-in-Other g c =
+    let all = codes_of g.R.Element.Kind.alphabet (g.R.Reading.elements c.args.reading.now) in
+    let run = c.codes_of-in-Other.result.now in
+    subst (λ p. Stepped (item_of (vec_items c.args.pattern.now.codes) (vec_items c.args.pattern.now.runs) p) c.args.row.now all c.pass-in-Other.new.row) (sym c.in-Other.is)
+    (subst (λ r. Stepped (other r) c.args.row.now all c.pass-in-Other.new.row) c.codes_of-in-Other.ensures
+    (alike (range_item c.of_one.result) (other run) c.args.row.now all c.pass-in-Other.new.row (λ ys. ap (λ i. matches i ys) c.of_one.ensures ∙ others run ys) c.pass-in-Other.ensures))
+
+pub returns-in-Gap : goal.returns-in-Gap
+returns-in-Gap g c =
+    let elements = g.R.Reading.elements c.args.reading.now in
+    let code = g.R.Element.Kind.alphabet.code in
+    let all = codes_of g.R.Element.Kind.alphabet elements in
+    subst (λ p. Stepped (item_of (vec_items c.args.pattern.now.codes) (vec_items c.args.pattern.now.runs) p) c.args.row.now all c.pass_gap.new.row) (sym c.in-Gap.is)
+    (c.pass_gap.ensures all (length-map elements code ∙ sym c.len-in-Gap.ensures))

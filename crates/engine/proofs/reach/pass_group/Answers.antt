@@ -1,0 +1,36 @@
+use Rattle.std.proofs.Common.{true, map, get_or, take, vec_items, sym, ap, ◌∙◌, subst, arith}
+use Rattle.std.proofs.lemmas.List.{map_more, take_all}
+use Rattle.kinds.specs.Patterns.{group, range}
+use Rattle.kinds.specs.declared.pattern.Direction.TheVariants.{FirstOn}
+use Rattle.engine.specs.Codes.{codes_of}
+use Rattle.engine.specs.Stored.{run_codes}
+use Rattle.engine.specs.Reaching.{Stepped}
+use Rattle.engine.specs.declared.run.Run.{Run}
+use Rattle.engine.proofs.Lengths.{run_at_within}
+use Rattle.engine.proofs.Reaching.{group_none, group_more}
+use Rattle.engine.proofs.reach.pass_group.Goals as goal
+
+pub loop-run-init : goal.loop-run-init
+loop-run-init g c = group_none c.args.row.now (codes_of g.R.Element.Kind.alphabet (g.R.Reading.elements c.args.reading.now)) c.none-all.result c.none-all.ensures
+
+pub codes_of-requires : goal.codes_of-requires
+codes_of-requires g c = run_at_within (vec_items c.args.pattern.now.codes) c.args.runs.now c.loop-run.run-index (record { start = 0; len = 0 }) c.requires c.loop-run-test.true
+
+pub loop-run-preserved : goal.loop-run-preserved
+loop-run-preserved g c =
+    let all = codes_of g.R.Element.Kind.alphabet (g.R.Reading.elements c.args.reading.now) in
+    let f = run_codes (vec_items c.args.pattern.now.codes) in
+    let rs = c.args.runs.now in
+    let i = c.loop-run.run-index in
+    let none : Run = record { start = 0; len = 0 } in
+    subst (λ runs. Stepped (group runs) c.args.row.now all c.union-all.result) (sym (map_more f rs i none c.loop-run-test.true))
+    (group_more (map f (take i rs)) (f (get_or rs i none)) c.args.row.now all c.loop-run.all c.pass.new.row c.union-all.result c.loop-run.invariant
+    (subst (λ item. Stepped item c.args.row.now all c.pass.new.row) (c.of_one.ensures ∙ ap (λ run. range FirstOn true run run) c.codes_of.ensures) c.pass.ensures)
+    c.union-all.ensures)
+
+pub returns : goal.returns
+returns g c =
+    subst
+    (λ rs. Stepped (group (map (run_codes (vec_items c.args.pattern.now.codes)) rs)) c.args.row.now (codes_of g.R.Element.Kind.alphabet (g.R.Reading.elements c.args.reading.now)) c.loop-run.all)
+    (take_all c.loop-run.run-index c.args.runs.now (omega arith))
+    c.loop-run.invariant

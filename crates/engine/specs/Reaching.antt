@@ -1,0 +1,35 @@
+-- One step of an item over the codes of a reading, from the members of a row to those of another.
+use Rattle.std.specs.Prelude.{◌≡◌, ℕ, ◌+◌, ◌-◌, ◌<◌, ◌≤◌, Bool, true, ◌&&◌, List, length, Decides, nat_le}
+use Rattle.kinds.specs.Patterns.{Item, matches, range}
+use Rattle.kinds.specs.Search.{stretch}
+use Rattle.kinds.specs.declared.pattern.Direction.{Direction}
+use Rattle.kinds.specs.declared.pattern.Direction.TheVariants.{FirstOn, LastOn}
+use Rattle.rows.specs.Rows.{member}
+use Rattle.rows.specs.declared.Row.{Row}
+use Rattle.engine.specs.declared.reach.RunRange.{RunRange}
+
+-- the item that a range of runs stands for
+abbrev pub range_item : RunRange → Item
+range_item r = range r.direction r.inside r.low.now r.high.now
+
+-- an item leads from a member of a row to j
+pub record Led (item : Item) (row : Row) (xs : List ℕ) (j : ℕ) : Type 0 where
+  pub origin : ℕ
+  pub held : member row origin ≡ true
+  pub ordered : origin ≤ j
+  pub small : j < 1024
+  pub inside : j ≤ length xs
+  pub matched : matches item (stretch xs origin j) ≡ true
+
+-- the members of a row are the places that an item leads to from those of another
+abbrev pub Stepped : Item → Row → List ℕ → Row → Type 0
+Stepped item row xs on = (j : ℕ) → Decides (member on j) (Led item row xs j)
+
+-- whether an item matches the n codes at an offset, where there are that many
+abbrev pub matches_at : Item → ℕ → List ℕ → ℕ → Bool
+matches_at item n xs at = nat_le (at + n) (length xs) && matches item (stretch xs at (at + n))
+
+-- where a comparison of lists of n codes is after i codes
+abbrev pub position : Direction → ℕ → ℕ → ℕ
+position FirstOn n i = i
+position LastOn n i = n - 1 - i

@@ -5,7 +5,7 @@ use lib.Pow.{shr_le}
 use Rattle.std.proofs.lemmas.Bool.{both_ways, cases_lt, false≢true, true≢false}
 use Rattle.rows.specs.declared.Row.{Row}
 use Rattle.rows.specs.Rows.{bit, member, FirstFrom, NoneFrom}
-use Rattle.rows.proofs.Members.{member_bit}
+use Rattle.rows.proofs.Members.{member_bit, member_past}
 use Rattle.rows.proofs.Words.{bit_of_zero, bit_past, bit_shr, trailing_below, trailing_bit}
 
 -- b is the lowest bit from s on that is set in the word
@@ -73,14 +73,29 @@ first_in row start i s v base hi hs eb fits is p le none =
         let inside = low.inside in
         member_at row i (j - 64 * i) j hi (omega arith) (omega arith) ∙ low.before (j - 64 * i) (omega arith) (omega arith)
 
--- no member is added by word i, from its bit s on, if those bits are not set
-pub none_more : (row : Row) (start i s base : ℕ) → i < 16 → s < 64 → base ≡ 64 * i + s → get_or row.words i 0 / 2 ^ s ≡ 0
-    → ((j : ℕ) → start ≤ j → j < base → member row j ≡ false)
-    → (j : ℕ) → start ≤ j → j < 64 * (i + 1) → member row j ≡ false
-none_more row start i s base hi hs eb z none j l h =
-    ⊎_elim (none j l)
-    (λ k. member_at row i (j - 64 * i) j hi (omega arith) (omega arith) ∙ no_bit (get_or row.words i 0) s (j - 64 * i) z (omega arith))
-    (cases_lt j base)
+-- no member stands from `from` on and before word `until`, where the word of `from` has no bit from there on and the words behind are 0
+pub none_between : (row : Row) (from n : ℕ) → from < 1024 → get_or row.words (from / 64) 0 / 2 ^ (from % 64) ≡ 0 → from / 64 + 1 + n ≤ 16
+    → ((k : ℕ) → k < n → get_or row.words (from / 64 + 1 + k) 0 ≡ 0)
+    → (j : ℕ) → from ≤ j → j < 64 * (from / 64 + 1 + n) → member row j ≡ false
+none_between row from n below zero few zeros j h l = ⊎_elim own behind (cases_lt (j / 64) (from / 64 + 1))
+  where
+    own : j / 64 < from / 64 + 1 → member row j ≡ false
+    own k =
+        member_at row (from / 64) (j % 64) j (omega arith) (omega arith) (omega arith)
+        ∙ no_bit (get_or row.words (from / 64) 0) (from % 64) (j % 64) zero (omega arith)
+
+    behind : from / 64 + 1 ≤ j / 64 → member row j ≡ false
+    behind k =
+        let at : from / 64 + 1 + (j / 64 - (from / 64 + 1)) ≡ j / 64 = omega arith in
+        member_bit row j (omega arith)
+        ∙ ap (λ w. bit w (j % 64)) (ap (λ i. get_or row.words i 0) (sym at) ∙ zeros (j / 64 - (from / 64 + 1)) (omega arith)) ∙ bit_of_zero (j % 64)
+
+-- no member stands from `from` on, where all words behind are 0
+pub none_behind : (row : Row) (from : ℕ) → from < 1024 → get_or row.words (from / 64) 0 / 2 ^ (from % 64) ≡ 0
+    → ((k : ℕ) → k < 16 - (from / 64 + 1) → get_or row.words (from / 64 + 1 + k) 0 ≡ 0) → NoneFrom row from
+unfolding NoneFrom
+none_behind row from below zero zeros j h =
+    ⊎_elim (λ l. none_between row from (16 - (from / 64 + 1)) below zero (omega arith) zeros j h (omega arith)) (member_past row j) (cases_lt j 1024)
 
 -- a search from 0 on says whether there is a member
 pub none_at_all : (row : Row) (o : Option ℕ) (r : Bool) → MatchOption o (NoneFrom row 0) (FirstFrom row 0) → is_some o ≡ not r
@@ -90,3 +105,10 @@ none_at_all row None true h e = λ j. h j (omega arith)
 none_at_all row None false h e = absurd (false≢true e)
 none_at_all row (Some k) true h e = absurd (true≢false e)
 none_at_all row (Some k) false h e = (k, h.held)
+
+-- a row whose words from n on are 0 has no member from 64 * n on
+pub none_past : (row : Row) (n : ℕ) → ((k : ℕ) → n ≤ k → k < 16 → get_or row.words k 0 ≡ 0) → NoneFrom row (64 * n)
+unfolding NoneFrom
+none_past row n zero j h =
+    ⊎_elim (λ l. member_bit row j l ∙ ap (λ w. bit w (j % 64)) (zero (j / 64) (omega arith) (omega arith)) ∙ bit_of_zero (j % 64)) (member_past row j)
+    (cases_lt j 1024)

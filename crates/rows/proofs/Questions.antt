@@ -1,14 +1,11 @@
 -- A question that is asked about the bits of a word, from the highest down, and about the words of a row.
-use Rattle.std.proofs.Common.{◌≡◌, ℕ, ◌+◌, ◌-◌, ◌*◌, ◌/◌, ◌%◌, ◌^◌, ◌<◌, ◌≤◌, Bool, true, ◌&&◌, ◌||◌, eqb, ltb, leb, get_or, sym, ap, ◌∙◌, ap₂, ⊎_elim, arith}
+use Rattle.std.proofs.Common.{◌≡◌, ℕ, ◌+◌, ◌-◌, ◌*◌, ◌%◌, ◌^◌, ◌<◌, ◌≤◌, Bool, true, ◌&&◌, ◌||◌, eqb, ltb, leb, sym, ap, ◌∙◌, ap₂, ⊎_elim, arith}
 use lib.Bits.{bit_and, bit_or}
 use lib.Count.{count_leading_zeros, count_trailing_zeros}
 use Rattle.std.proofs.lemmas.Bool.{and_right, both_ways, cases_Bool, cases_lt, le-ltb, lt-ltb}
 use Rattle.std.proofs.lemmas.Bool.Decides.{nat_tests}
-use Rattle.rows.specs.declared.Row.{Row}
-use Rattle.rows.specs.Rows.{bit, member, NoneFrom}
-use Rattle.rows.proofs.Members.{member_bit, member_past}
+use Rattle.rows.specs.Rows.{bit}
 use Rattle.rows.proofs.Words.{bit_of_and, bit_of_zero, bit_of_or, bit_shl_word, leading_above, trailing_below, trailing_bit}
-use Rattle.rows.proofs.Written.{Written, written_all}
 
 -- the bits of a number are the answers from a bit up to `top`
 abbrev pub Answers : (ℕ → Bool) → ℕ → ℕ → ℕ → ℕ → Type 0
@@ -80,34 +77,3 @@ answers_all f base word on fits all b =
         let is : bit on (b - least) ≡ f (base + b) =
         all (b - least) ∙ ap₂ ◌&&◌ (lt-ltb (b - least) (top - least) (omega arith)) (ap f at) in
         grind (arith, nat_tests)
-
--- the members that a question is answered yes of
-abbrev pub chosen : (ℕ → Bool) → Row → ℕ → Bool
-chosen f old j = member old j && f j
-
--- a word cut to the bits that the question is answered yes of
-pub kept_word : (f : ℕ → Bool) (old row : Row) (i end word : ℕ) → Written old row i end (chosen f old) → 0 < i
-    → ((b : ℕ) → bit word b ≡ (bit (get_or row.words (i - 1) 0) b && f (64 * (i - 1) + b)))
-    → (j : ℕ) → j < 1024 → j / 64 ≡ i - 1 → bit word (j % 64) ≡ chosen f old j
-kept_word f old row i end word w p bits j h e =
-    let at : 64 * (i - 1) + j % 64 ≡ j = omega arith in
-    bits (j % 64)
-    ∙ ap₂ ◌&&◌
-    (ap (λ x. bit x (j % 64)) (w.lower (i - 1) (omega arith)) ∙ ap (λ k. bit (get_or old.words k 0) (j % 64)) (sym e) ∙ sym (member_bit old j h))
-    (ap f at)
-
--- a word that is 0 stays
-pub kept_zero : (f : ℕ → Bool) (old row : Row) (i end : ℕ) → Written old row i end (chosen f old) → 0 < i → get_or row.words (i - 1) 0 ≡ 0
-    → (j : ℕ) → j < 1024 → j / 64 ≡ i - 1 → bit (get_or row.words (i - 1) 0) (j % 64) ≡ chosen f old j
-kept_zero f old row i end w p z =
-    kept_word f old row i end (get_or row.words (i - 1) 0) w p
-    (λ b. let none = ap (λ x. bit x b) z ∙ bit_of_zero b in none ∙ ap (λ t. t && f (64 * (i - 1) + b)) (sym none))
-
--- a row of which all members have been asked
-pub kept_all : (f : ℕ → Bool) (old row : Row) (end : ℕ) → NoneFrom old (64 * end) → Written old row 0 end (chosen f old)
-    → (j : ℕ) → member row j ≡ (member old j && f j)
-unfolding NoneFrom
-kept_all f old row end none w =
-    written_all old row end (chosen f old) w
-    (λ j h l. let e = none j (omega arith) in e ∙ ap (λ t. t && f j) (sym e))
-    (λ j h. ap (λ t. t && f j) (member_past old j h))

@@ -1,95 +1,79 @@
--- Words of a row written from the last one down.
-use Rattle.std.proofs.Common.{◌≡◌, ℕ, ◌+◌, ◌-◌, ◌*◌, ◌/◌, ◌%◌, ◌<◌, ◌≤◌, Bool, false, ◌&&◌, ◌||◌, ltb, leb, ◌⊎◌, length, get_or, set, sym, refl, ap, ◌∙◌, ap₂, ⊎_elim, arith}
+-- Words of a row written one after the other.
+use Rattle.std.proofs.Common.{◌≡◌, ℕ, ◌+◌, ◌-◌, ◌*◌, ◌/◌, ◌%◌, ◌<◌, ◌≤◌, min, max, Bool, false, ◌&&◌, ◌||◌, ltb, leb, ◌⊎◌, List, length, get_or, set, sym, refl, ap, ◌∙◌, ap₂, inl, inr, ⊎_elim, arith}
 use lib.Bits.{bit_or}
-use Rattle.std.proofs.lemmas.List.{get_or-set_other, length-set}
+use Rattle.std.proofs.lemmas.List.{get_or-set_other}
 use Rattle.std.proofs.lemmas.Bool.{and_right, cases_lt, le-ltb, lt-ltb}
 use Rattle.std.proofs.lemmas.Bool.Decides.{nat_tests}
 use Rattle.rows.specs.declared.Row.{Row}
 use Rattle.rows.specs.Rows.{bit, member, moved, NoneFrom}
 use Rattle.rows.proofs.Members.{bit_after_set, by_words, member_bit, member_past}
-use Rattle.rows.proofs.Words.{bit_of_or}
+use Rattle.rows.proofs.Words.{bit_of_or, bit_of_zero}
 
--- of the words before `end` those from i on have the bits that `f` says, and all others are as they were
-pub record Written (old row : Row) (i end : ℕ) (f : ℕ → Bool) : Type 0 where
-  pub size : length row.words ≡ 16
-  pub within : i ≤ end
-  pub lower : (k : ℕ) → k < i → get_or row.words k 0 ≡ get_or old.words k 0
-  pub done : (j : ℕ) → j < 1024 → i ≤ j / 64 → j / 64 < end → bit (get_or row.words (j / 64) 0) (j % 64) ≡ f j
-  pub upper : (k : ℕ) → end ≤ k → get_or row.words k 0 ≡ get_or old.words k 0
+-- the words from `low` up to `high` have the bits that `f` says, and all others are those of the row `old`
+pub record Written (old : Row) (words : List ℕ) (low high : ℕ) (f : ℕ → Bool) : Type 0 where
+  pub done : (j : ℕ) → low ≤ j / 64 → j / 64 < high → bit (get_or words (j / 64) 0) (j % 64) ≡ f j
+  pub below : (k : ℕ) → k < low → get_or words k 0 ≡ get_or old.words k 0
+  pub past : (k : ℕ) → high ≤ k → get_or words k 0 ≡ get_or old.words k 0
 
 -- nothing is written yet
-pub written_none : (old : Row) (end : ℕ) (f : ℕ → Bool) → length old.words ≡ 16 → Written old old end end f
-written_none old end f len =
-    record { size = len; within = omega arith; lower = λ k h. refl; done = λ j l a b. absurd (omega arith); upper = λ k h. refl }
+pub written_none : (old : Row) (at : ℕ) (f : ℕ → Bool) → Written old old.words at at f
+written_none old at f = record { done = λ j a b. absurd (omega arith); below = λ k h. refl; past = λ k h. refl }
 
--- one word more
-pub written_more : (old row : Row) (i end word : ℕ) (f : ℕ → Bool) → Written old row i end f → 0 < i → end ≤ 16
-    → ((j : ℕ) → j < 1024 → j / 64 ≡ i - 1 → bit word (j % 64) ≡ f j) → Written old (record { words = set row.words (i - 1) word }) (i - 1) end f
-written_more old row i end word f w p e bits =
-    let size = w.size in
-    let within = w.within in
+-- one word more, at either end
+pub written_more : {old : Row} {words : List ℕ} {low high : ℕ} {f : ℕ → Bool} (i word : ℕ) {now_low now_high : ℕ} → Written old words low high f
+    → i < length words → low ≤ i + 1 → i ≤ high → now_low ≡ min low i → now_high ≡ max high (i + 1)
+    → ((j : ℕ) → j / 64 ≡ i → bit word (j % 64) ≡ f j) → Written old (set words i word) now_low now_high f
+written_more {words = words} {f = f} i word w inside a b el eh bits =
     record {
-      size = length-set row.words (i - 1) word ∙ size;
-      within = omega arith;
-      lower = λ k l. get_or-set_other row.words (i - 1) k word 0 (λ q. omega arith) ∙ w.lower k (omega arith);
-      done = λ j l a b. bit_after_set row.words (i - 1) word j (f j) (omega arith) (bits j l) (λ ne. w.done j l (omega arith) b);
-      upper = λ k l. get_or-set_other row.words (i - 1) k word 0 (λ q. omega arith) ∙ w.upper k l;
+      done = λ j l h. bit_after_set words i word j (f j) inside (bits j) (λ ne. w.done j (omega arith) (omega arith));
+      below = λ k l. get_or-set_other words i k word 0 (λ q. omega arith) ∙ w.below k (omega arith);
+      past = λ k l. get_or-set_other words i k word 0 (λ q. omega arith) ∙ w.past k (omega arith);
     }
 
--- one word more, which stays as it is
-pub written_kept : (old row : Row) (i end : ℕ) (f : ℕ → Bool) → Written old row i end f → 0 < i
-    → ((j : ℕ) → j < 1024 → j / 64 ≡ i - 1 → bit (get_or row.words (i - 1) 0) (j % 64) ≡ f j) → Written old row (i - 1) end f
-written_kept old row i end f w p bits =
-    let within = w.within in
-    record {
-      size = w.size;
-      within = omega arith;
-      lower = λ k l. w.lower k (omega arith);
-      done = λ j l a b.
-          ⊎_elim (λ h. w.done j l (omega arith) b)
-          (λ h. let e : j / 64 ≡ i - 1 = omega arith in ap (λ k. bit (get_or row.words k 0) (j % 64)) e ∙ bits j l e)
-          (cases_lt (i - 1) (j / 64));
-      upper = w.upper;
-    }
-
--- every word is written, and those from `end` on are as `f` says
-pub written_all : (old row : Row) (end : ℕ) (f : ℕ → Bool) → Written old row 0 end f
-    → ((j : ℕ) → j < 1024 → end ≤ j / 64 → member old j ≡ f j) → ((j : ℕ) → 1024 ≤ j → f j ≡ false)
+-- every word is written, and those from `high` on are as `f` says
+pub written_all : {old : Row} (row : Row) {low high : ℕ} {f : ℕ → Bool} → Written old row.words low high f → low ≤ 0
+    → ((j : ℕ) → j < 1024 → high ≤ j / 64 → member old j ≡ f j) → ((j : ℕ) → 1024 ≤ j → f j ≡ false)
     → (j : ℕ) → member row j ≡ f j
-written_all old row end f w rest =
+written_all {old = old} row {high = high} {f = f} w first rest =
     by_words row f
     (λ j h.
-    ⊎_elim (λ l. w.done j h (omega arith) l)
-    (λ l. ap (λ word. bit word (j % 64)) (w.upper (j / 64) l) ∙ sym (member_bit old j h) ∙ rest j h l) (cases_lt (j / 64) end))
+    ⊎_elim (λ l. w.done j (omega arith) l)
+    (λ l. ap (λ word. bit word (j % 64)) (w.past (j / 64) l) ∙ sym (member_bit old j h) ∙ rest j h l) (cases_lt (j / 64) high))
+
+-- the bit of a word that is not written yet is a member of the row
+bit_unwritten : {old : Row} {words : List ℕ} {low high : ℕ} {f : ℕ → Bool} (i j : ℕ) → Written old words low high f
+    → i < 16 → (i < low) ⊎ (high ≤ i) → j / 64 ≡ i → bit (get_or words i 0) (j % 64) ≡ member old j
+bit_unwritten {old = old} i j w few side e =
+    ap (λ x. bit x (j % 64)) (⊎_elim (w.below i) (w.past i) side) ∙ ap (λ k. bit (get_or old.words k 0) (j % 64)) (sym e)
+    ∙ sym (member_bit old j (omega arith))
 
 -- where a row is moved on to j, only the words up to that of j count
-pub moved_same : (a b : Row) (by j : ℕ) → ((k : ℕ) → k ≤ j / 64 → get_or a.words k 0 ≡ get_or b.words k 0) → moved a by j ≡ moved b by j
+moved_same : (a b : Row) (by j : ℕ) → ((k : ℕ) → k ≤ j / 64 → get_or a.words k 0 ≡ get_or b.words k 0) → moved a by j ≡ moved b by j
 unfolding moved member
 moved_same a b by j same =
     ap (λ w. leb by j && (ltb (j - by) 1024 && bit w ((j - by) % 64))) (same ((j - by) / 64) (omega arith))
 
 -- nothing is moved further than the words that have members and the distance
-pub moved_past : (row : Row) (by j n : ℕ) → NoneFrom row (64 * n) → n + by / 64 + 1 ≤ j / 64 → moved row by j ≡ false
+moved_past : (row : Row) (by j n : ℕ) → NoneFrom row (64 * n) → n + by / 64 + 1 ≤ j / 64 → moved row by j ≡ false
 unfolding moved NoneFrom
 moved_past row by j n none h = and_right (leb by j) (member row (j - by)) (none (j - by) (omega arith))
 
+-- the members of a row moved on by `by`
+abbrev pub shifts : Row → ℕ → ℕ → Bool
+shifts old by j = ltb j 1024 && moved old by j
+
 -- a word of a row that is being moved on, from those below that are as they were
-pub shift_word : (old row : Row) (i end by word : ℕ) (f : ℕ → Bool) → Written old row i end f → 0 < i
-    → ((j : ℕ) → j / 64 ≡ i - 1 → bit word (j % 64) ≡ moved row by j)
-    → (j : ℕ) → j / 64 ≡ i - 1 → bit word (j % 64) ≡ moved old by j
-shift_word old row i end by word f w p bits j e = bits j e ∙ moved_same row old by j (λ k l. w.lower k (omega arith))
+pub shift_word : {old : Row} (row : Row) {low high : ℕ} {f : ℕ → Bool} (i by word : ℕ) → Written old row.words low high f → i < low
+    → ((j : ℕ) → j / 64 ≡ i → bit word (j % 64) ≡ moved row by j) → (j : ℕ) → j / 64 ≡ i → bit word (j % 64) ≡ moved old by j
+shift_word {old = old} row i by word w h bits j e = bits j e ∙ moved_same row old by j (λ k l. w.below k (omega arith))
 
 -- a row whose words have been moved on
-pub shifted_all : (old row : Row) (end by n : ℕ) → n + by / 64 + 1 ≤ end ⊎ 16 ≤ end → NoneFrom old (64 * n)
-    → Written old row 0 end (λ j. ltb j 1024 && moved old by j)
-    → (j : ℕ) → member row j ≡ (ltb j 1024 && moved old by j)
+pub shifted_all : {old : Row} (row : Row) {low end : ℕ} (by n : ℕ) → Written old row.words low end (shifts old by) → low ≤ 0
+    → end ≡ min (n + by / 64 + 1) 16 → NoneFrom old (64 * n) → (j : ℕ) → member row j ≡ shifts old by j
 unfolding NoneFrom
-shifted_all old row end by n wide none w =
-    written_all old row end (λ j. ltb j 1024 && moved old by j) w
-    (λ j h l.
-    ⊎_elim
-    (λ far. none j (omega arith) ∙ sym (and_right (ltb j 1024) (moved old by j) (moved_past old by j n none (omega arith))))
-    (λ far. absurd (omega arith)) wide)
+shifted_all {old = old} row by n w first is none =
+    written_all row w first
+    (λ j h l. none j (omega arith) ∙ sym (and_right (ltb j 1024) (moved old by j) (moved_past old by j n none (omega arith))))
     (λ j h. ap (λ t. t && moved old by j) (le-ltb j 1024 h))
 
 -- what joins a row that is moved on to the words before `end`
@@ -97,20 +81,58 @@ abbrev pub joins : Row → ℕ → ℕ → ℕ → Bool
 joins old end by j = member old j || (ltb j (64 * end) && moved old by j)
 
 -- a word with the row's own bits and those that are moved to it
-pub join_word : (old row : Row) (i end by word : ℕ) → Written old row i end (joins old end by) → 0 < i
-    → ((j : ℕ) → j / 64 ≡ i - 1 → bit word (j % 64) ≡ moved row by j)
-    → (j : ℕ) → j < 1024 → j / 64 ≡ i - 1 → bit (bit_or (get_or row.words (i - 1) 0) word) (j % 64) ≡ joins old end by j
-join_word old row i end by word w p bits j h e =
-    let within = w.within in
-    let own : bit (get_or row.words (i - 1) 0) (j % 64) ≡ member old j =
-    ap (λ x. bit x (j % 64)) (w.lower (i - 1) (omega arith)) ∙ ap (λ k. bit (get_or old.words k 0) (j % 64)) (sym e) ∙ sym (member_bit old j h) in
-    bit_of_or (get_or row.words (i - 1) 0) word (j % 64)
-    ∙ ap₂ ◌||◌ own (shift_word old row i end by word (joins old end by) w p bits j e ∙ ap (λ t. t && moved old by j) (sym (lt-ltb j (64 * end) (omega arith))))
+pub join_word : {old : Row} (row : Row) {low end : ℕ} (by i word : ℕ) → Written old row.words low end (joins old end by) → i < low → i < end
+    → end ≤ 16 → ((j : ℕ) → j / 64 ≡ i → bit word (j % 64) ≡ moved row by j)
+    → (j : ℕ) → j / 64 ≡ i → bit (bit_or (get_or row.words i 0) word) (j % 64) ≡ joins old end by j
+join_word {old = old} row {end = end} by i word w h l few bits j e =
+    bit_of_or (get_or row.words i 0) word (j % 64)
+    ∙ ap₂ ◌||◌ (bit_unwritten i j w (omega arith) (inl h) e)
+    (shift_word row i by word w h bits j e ∙ ap (λ t. t && moved old by j) (sym (lt-ltb j (64 * end) (omega arith))))
 
 -- a row to which all have been joined
-pub joined_all : (old row : Row) (end by : ℕ) → end ≤ 16 → Written old row 0 end (joins old end by)
+pub joined_all : {old : Row} (row : Row) {low end : ℕ} (by : ℕ) → Written old row.words low end (joins old end by) → low ≤ 0 → end ≤ 16
     → (j : ℕ) → member row j ≡ joins old end by j
-joined_all old row end by few w =
-    written_all old row end (joins old end by) w
+joined_all {old = old} row {end = end} by w first few =
+    written_all row w first
     (λ j h l. let e = le-ltb j (64 * end) (omega arith) in grind (arith, nat_tests))
     (λ j h. let m = member_past old j h in let e = le-ltb j (64 * end) (omega arith) in grind (arith, nat_tests))
+
+-- the members of either of two rows
+abbrev pub joint : Row → Row → ℕ → Bool
+joint a b j = member a j || member b j
+
+-- a word with the bits of both
+pub joint_word : {a : Row} (b : Row) {words : List ℕ} {i : ℕ} → Written a words 0 i (joint a b) → i < 16
+    → (j : ℕ) → j / 64 ≡ i → bit (bit_or (get_or words i 0) (get_or b.words i 0)) (j % 64) ≡ joint a b j
+joint_word b {words = words} {i = i} w h j e =
+    bit_of_or (get_or words i 0) (get_or b.words i 0) (j % 64)
+    ∙ ap₂ ◌||◌ (bit_unwritten i j w h (inr (omega arith)) e)
+    (ap (λ k. bit (get_or b.words k 0) (j % 64)) (sym e) ∙ sym (member_bit b j (omega arith)))
+
+-- a row whose words have all been joined
+pub joint_all : {a : Row} (b row : Row) {end : ℕ} → Written a row.words 0 end (joint a b) → 16 ≤ end → (j : ℕ) → member row j ≡ joint a b j
+joint_all {a = a} b row w all =
+    written_all row w (omega arith) (λ j h l. absurd (omega arith)) (λ j h. ap₂ ◌||◌ (member_past a j h) (member_past b j h))
+
+-- the members that a question is answered yes of
+abbrev pub chosen : (ℕ → Bool) → Row → ℕ → Bool
+chosen f old j = member old j && f j
+
+-- one word more, cut to the bits that the question is answered yes of
+pub kept_more : (f : ℕ → Bool) {old : Row} {words : List ℕ} {i : ℕ} (word : ℕ) → Written old words 0 i (chosen f old) → i < 16 → i < length words
+    → ((b : ℕ) → bit word b ≡ (bit (get_or words i 0) b && f (64 * i + b))) → Written old (set words i word) 0 (i + 1) (chosen f old)
+kept_more f {i = i} word w h inside bits =
+    written_more i word w inside (omega arith) (omega arith) (omega arith) (omega arith)
+    (λ j e.
+    let at : 64 * i + j % 64 ≡ j = omega arith in
+    bits (j % 64) ∙ ap₂ ◌&&◌ (bit_unwritten i j w h (inr (omega arith)) e) (ap f at))
+
+-- a word that is 0 has no bit to ask about
+pub zero_chosen : (f : ℕ → Bool) (word i : ℕ) → word ≡ 0 → (b : ℕ) → bit word b ≡ (bit word b && f (64 * i + b))
+zero_chosen f word i z b = let none = ap (λ x. bit x b) z ∙ bit_of_zero b in none ∙ ap (λ t. t && f (64 * i + b)) (sym none)
+
+-- a row of which all members have been asked
+pub kept_all : (f : ℕ → Bool) {old : Row} (row : Row) {end : ℕ} → Written old row.words 0 end (chosen f old) → 16 ≤ end
+    → (j : ℕ) → member row j ≡ chosen f old j
+kept_all f {old = old} row w all =
+    written_all row w (omega arith) (λ j h l. absurd (omega arith)) (λ j h. ap (λ t. t && f j) (member_past old j h))

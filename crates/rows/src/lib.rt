@@ -1,8 +1,8 @@
 // Sets of offsets below 1,024, as rows of bits.
 #![tactic(auto)]
 
-ghost use Rattle.std.specs.Prelude.{◌≡◌, ℕ, ◌+◌, ◌-◌, ◌*◌, ◌/◌, ◌%◌, ◌<◌, ◌≤◌, Bool, true, false, not, ◌&&◌, ◌||◌, if◌then◌else◌, MatchBool, MatchOption, ◌==◌, nat_le, nat_lt, slice_index};
-ghost use Rattle.rows.specs.Rows.{bit, member, moved, some_distance, FirstFrom, NoneFrom};
+ghost use Rattle.std.specs.Prelude.{◌≡◌, ℕ, ◌+◌, ◌-◌, ◌*◌, ◌/◌, ◌%◌, ◌<◌, ◌≤◌, Bool, true, false, not, ◌&&◌, ◌||◌, if◌then◌else◌, MatchBool, MatchOption, ◌==◌, nat_le, nat_lt, slice_index, length};
+ghost use Rattle.rows.specs.Rows.{bit, member, moved, some_distance, FirstFrom, FirstUsed, NoneFrom};
 
 // How many offsets there are.
 const WIDTH: usize = 1024;
@@ -42,8 +42,8 @@ impl Row {
     pub fn union(mut self, other: Row) -> Row
         ensures { (j : ℕ) → member result j ≡ (member self j || member other j) }
     {
-        for i in 0..16 {
-            self.words[i] |= other.words[i];
+        for (i, word) in self.words.iter_mut().enumerate() {
+            *word |= other.words[i];
         }
         self
     }
@@ -54,11 +54,10 @@ impl Row {
         ensures last { 0 < result → 0 < slice_index self.now.words (result - 1) }
         ensures past { NoneFrom self.now (64 * result) }
     {
-        let mut n = 16;
-        while n > 0 && self.words[n - 1] == 0 {
-            n -= 1;
-        }
-        n
+        self.words
+            .iter()
+            .rposition(|word| *word != 0)
+            .map_or(0, |last| last + 1)
     }
 
     // Word i of the row moved on by `by`.
@@ -80,9 +79,8 @@ impl Row {
     pub fn shift(&mut self, by: usize)
         ensures { (j : ℕ) → member self.new j ≡ (nat_lt j 1024 && moved self.old by j) }
     {
-        let mut i = (self.used() + by / 64 + 1).min(16);
-        while i > 0 {
-            i -= 1;
+        let end = (self.used() + by / 64 + 1).min(16);
+        for i in (0..end).rev() {
             self.words[i] = self.moved_word(i, by);
         }
     }
@@ -92,9 +90,7 @@ impl Row {
         requires { end ≤ 16 }
         ensures { (j : ℕ) → member self.new j ≡ (member self.old j || (nat_lt j (64 * end) && moved self.old by j)) }
     {
-        let mut i = end;
-        while i > 0 {
-            i -= 1;
+        for i in (0..end).rev() {
             self.words[i] |= self.moved_word(i, by);
         }
     }
@@ -130,11 +126,9 @@ impl Row {
     pub fn keep<Q: Question>(&mut self, question: &Q)
         ensures { (j : ℕ) → member self.new j ≡ (member self.old j && Q.asked question.now j) }
     {
-        let mut i = self.used();
-        while i > 0 {
-            i -= 1;
-            if self.words[i] != 0 {
-                self.words[i] = answered(self.words[i], 64 * i, question);
+        for (i, word) in self.words.iter_mut().enumerate() {
+            if *word != 0 {
+                *word = answered(*word, 64 * i, question);
             }
         }
     }
@@ -146,9 +140,7 @@ impl Row {
         if last < WIDTH {
             let edge = last / 64;
             self.words[edge] &= u64::MAX >> (63 - last % 64);
-            for i in edge + 1..16 {
-                self.words[i] = 0;
-            }
+            self.words[edge + 1..].fill(0);
         }
     }
 
@@ -159,16 +151,13 @@ impl Row {
         if from >= WIDTH {
             return None;
         }
-        let word = self.words[from / 64] >> (from % 64);
+        let edge = from / 64;
+        let word = self.words[edge] >> (from % 64);
         if word != 0 {
             return Some(from + word.trailing_zeros() as usize);
         }
-        for i in from / 64 + 1..16 {
-            if self.words[i] != 0 {
-                return Some(64 * i + self.words[i].trailing_zeros() as usize);
-            }
-        }
-        None
+        let i = edge + 1 + first_used(&self.words[edge + 1..])?;
+        Some(64 * i + self.words[i].trailing_zeros() as usize)
     }
 
     // Whether there is no member.
@@ -177,6 +166,13 @@ impl Row {
     {
         self.first_from(0).is_none()
     }
+}
+
+// Where the first word that is not 0 stands.
+fn first_used(words: &[u64]) -> Option<usize>
+    ensures { MatchOption result ((k : ℕ) → k < length words.now → slice_index words.now k ≡ 0) (FirstUsed words.now) }
+{
+    words.iter().position(|word| *word != 0)
 }
 
 // The word `high` moved up by `bits`, with the top bits of the word below it, `low`, moved in.
@@ -203,11 +199,10 @@ fn answered<Q: Question>(word: u64, base: usize, question: &Q) -> u64
     ensures { (b : ℕ) → bit result b ≡ (bit word b && Q.asked question.now (base + b)) }
 {
     let least = word.trailing_zeros();
-    let mut next = 64 - word.leading_zeros();
-    let mut on: u64 = 0;
-    while next > least {
-        next -= 1;
-        on = on << 1 | question.ask(base + next as usize) as u64;
+    let end = 64 - word.leading_zeros();
+    let mut on = 0;
+    for bit in (least..end).rev() {
+        on = on << 1 | question.ask(base + bit as usize) as u64;
     }
     on << least & word
 }

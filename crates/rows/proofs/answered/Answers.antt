@@ -6,37 +6,25 @@ use Rattle.rows.proofs.Questions.{Answers, answers_all, answers_more, answers_no
 use Rattle.rows.proofs.Words.{bit_of_bool}
 use Rattle.rows.proofs.answered.Goals as goal
 
-pub loop-next-init : goal.loop-next-init
-loop-next-init g c =
+pub loop-bit-init : goal.loop-bit-init
+loop-bit-init g c =
     let word = c.args.word in
-    let below = lowest_below word c.requires.held c.ranges.word.fits in (
-      omega arith,
-      omega arith,
-      answers_none (g.Q.Question.asked c.args.question.now) c.args.base (64 - count_leading_zeros 64 word),
-    )
+    let below = lowest_below word c.requires.held c.ranges.word.fits in
+    (omega arith, answers_none (g.Q.Question.asked c.args.question.now) c.args.base (64 - count_leading_zeros 64 word))
 
-pub overflow_cast-next : goal.overflow_cast-next
-overflow_cast-next g c = let high = c.loop-next.invariant.1 in omega arith
-
-pub overflow_add-base : goal.overflow_add-base
-overflow_add-base g c = let high = c.loop-next.invariant.1 in let low = c.requires.low in omega arith
-
-pub loop-next-preserved : goal.loop-next-preserved
-loop-next-preserved g c =
-    let high = c.loop-next.invariant.1 in
-    let more = c.loop-next-test.true in (
+pub loop-bit-preserved : goal.loop-bit-preserved
+loop-bit-preserved g c =
+    let more = c.loop-bit-test.true in (
       omega arith,
-      omega arith,
-      answers_more (g.Q.Question.asked c.args.question.now) c.args.base (64 - count_leading_zeros 64 c.args.word) c.loop-next.next c.loop-next.on
-          c.ask.result (omega arith) high (omega arith) c.loop-next.invariant.2 c.ask.ensures (bool_byte c.ask.result) (bit_of_bool c.ask.result),
+      answers_more (g.Q.Question.asked c.args.question.now) c.args.base (64 - count_leading_zeros 64 c.args.word) c.loop-bit.bit c.loop-bit.on
+          c.ask.result (omega arith) (omega arith) (omega arith) c.loop-bit.invariant.1 c.ask.ensures (bool_byte c.ask.result) (bit_of_bool c.ask.result),
     )
 
 pub returns : goal.returns
 returns g c =
     let word = c.args.word in
     let f = g.Q.Question.asked c.args.question.now in
-    let base = c.args.base in
-    let low = c.loop-next.invariant.0 in
-    let e : c.loop-next.next ≡ count_trailing_zeros 64 word = omega arith in
-    answers_all f base word c.loop-next.on c.ranges.word.fits
-    (subst (λ n. Answers f base (64 - count_leading_zeros 64 word) n c.loop-next.on) e c.loop-next.invariant.2)
+    let low = c.loop-bit.invariant.0 in
+    let e : c.loop-bit.bit ≡ count_trailing_zeros 64 word = omega arith in
+    answers_all f c.args.base word c.loop-bit.on c.ranges.word.fits
+    (subst (λ n. Answers f c.args.base (64 - count_leading_zeros 64 word) n c.loop-bit.on) e c.loop-bit.invariant.1)

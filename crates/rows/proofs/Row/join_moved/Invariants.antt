@@ -1,9 +1,6 @@
--- The words from i on are written.
+-- The words from i on are joined.
 use Rattle.rows.proofs.Written.{joins, Written}
 use Rattle.rows.proofs.Row.join_moved.Given as goal
 
 abbrev pub invariant-loop-i : goal.invariant-loop-i
-invariant-loop-i l = Written l.initial.self l.self l.i l.end (joins l.initial.self l.end l.by)
-
-abbrev pub decreases-loop-i : goal.decreases-loop-i
-decreases-loop-i l = l.i
+invariant-loop-i l = Written l.initial.self l.self.words l.i l.end (joins l.initial.self l.end l.by)

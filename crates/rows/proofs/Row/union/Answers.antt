@@ -1,7 +1,18 @@
--- Every word is joined once i is 16.
-use Rattle.std.proofs.Common.{arith}
-use Rattle.rows.proofs.Members.{member_or}
+-- Each word is joined, from the first up.
+use Rattle.std.proofs.Common.{get_or, arith, rules}
+use lib.Bits.{bit_or}
+use Rattle.rows.proofs.Written.{joint, joint_word, joint_all, written_more, written_none}
 use Rattle.rows.proofs.Row.union.Goals as goal
 
+pub loop-i-init : goal.loop-i-init
+loop-i-init c = written_none c.args.self 0 (joint c.args.self c.args.other)
+
+pub loop-i-preserved : goal.loop-i-preserved
+loop-i-preserved c =
+    let i = c.loop-i.i in
+    let words = c.loop-i.word-items in
+    written_more i (bit_or (get_or words i 0) (get_or c.args.other.words i 0)) c.loop-i.invariant (search rules) (omega arith) (omega arith)
+    (omega arith) (omega arith) (joint_word c.args.other c.loop-i.invariant c.loop-i-test.true)
+
 pub returns : goal.returns
-returns c = member_or c.args.self c.args.other c.loop-i.self (λ k h. c.loop-i.invariant.1 k (omega arith))
+returns c = joint_all c.args.other (record { words = c.loop-i.word-items }) c.loop-i.invariant c.loop-i-test.false

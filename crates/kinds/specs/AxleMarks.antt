@@ -1,5 +1,5 @@
 -- Axle marks as a kind: U0, S0 to S9 and D0 to D9.
-use Rattle.std.specs.Prelude.{ℕ, ◌+◌, ◌-◌, ◌%◌, cond, ◌&&◌, Some, None, Option, ◌==◌, nat_lt}
+use Rattle.std.specs.Prelude.{ℕ, ◌+◌, ◌-◌, ◌%◌, cond, ◌&&◌, List, [], ◌∷◌, Some, None, Option, ◌==◌, nat_lt}
 use Rattle.std.proofs.Common.{arith}
 use Rattle.kinds.specs.Alphabet.{Alphabet, within}
 use Rattle.kinds.specs.declared.byte.Byte.{Byte}
@@ -42,6 +42,10 @@ abbrev pub mark_pair : Mark → ℕ × ℕ
 mark_pair Unread = (85, 48)
 mark_pair (Single b) = (83, 48 + b.digit)
 mark_pair (Dual b) = (68, 48 + b.digit)
+
+-- the pair as text
+abbrev pub mark_text : Mark → List ℕ
+mark_text m = (mark_pair m).0 ∷ (mark_pair m).1 ∷ []
 
 abbrev pub mark_alphabet : Alphabet Mark
 mark_alphabet = record {

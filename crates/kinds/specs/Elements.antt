@@ -4,9 +4,9 @@ use Rattle.std.proofs.Common.{ap, ◌∙◌, sym, arith}
 use mathlib.Core.HLevel.{is_prop→PathP}
 use Rattle.std.proofs.Math.Bridge.{le_prop}
 use Rattle.std.proofs.lemmas.Bool.Decides.{nat_tests}
-use Rattle.kinds.specs.Alphabet.{alphanumeric}
-use Rattle.kinds.specs.Bytes.{byte, hexadecimal, of_digits}
-use Rattle.kinds.specs.AxleMarks.{band, mark_code, mark_named, mark_of, mark_pair}
+use Rattle.kinds.specs.Alphabet.{Lawful, alphanumeric}
+use Rattle.kinds.specs.Bytes.{byte, byte_alphabet, hexadecimal, of_digits}
+use Rattle.kinds.specs.AxleMarks.{band, mark_alphabet, mark_code, mark_named, mark_of, mark_pair}
 use Rattle.kinds.specs.declared.byte.Byte.{Byte}
 use Rattle.kinds.specs.declared.mark.Band.{Band}
 use Rattle.kinds.specs.declared.mark.Mark.{Mark}
@@ -60,13 +60,6 @@ digits_alphanumeric first second x = go (hexadecimal first) (hexadecimal second)
     go (Some h) None p q e = grind arith
     go (Some h) (Some l) p q e = (hexadecimal_alphanumeric first h p, hexadecimal_alphanumeric second l q)
 
--- a byte within the range of the single or of the dual tyres is the mark of its band
-pub mark_of_single : (b : Byte) (t : Band) → 0x10 ≤ b.value → b.value < 0x1a → t.digit ≡ b.value - 0x10 → Single t ≡ mark_of b
-mark_of_single b t low high e = ap Single (is_band t _ e) ∙ grind (arith, nat_tests)
-
-pub mark_of_dual : (b : Byte) (t : Band) → 0x20 ≤ b.value → b.value < 0x2a → t.digit ≡ b.value - 0x20 → Dual t ≡ mark_of b
-mark_of_dual b t low high e = ap Dual (is_band t _ e) ∙ grind (arith, nat_tests)
-
 -- what a digit character names behind S and D
 named_at : (c : ℕ) → 48 ≤ c → c ≤ 57 → (mark_named 83 c ≡ Some (Single (band (c - 48)))) × (mark_named 68 c ≡ Some (Dual (band (c - 48))))
 named_at c low high = (grind (arith, nat_tests), grind (arith, nat_tests))
@@ -88,3 +81,26 @@ pub mark_pair_names : (m : Mark) → mark_named (mark_pair m).0 (mark_pair m).1 
 mark_pair_names Unread = refl
 mark_pair_names (Single b) = named_single b _ refl
 mark_pair_names (Dual b) = named_dual b _ refl
+
+-- the laws of bytes and of marks as kinds
+pub byte_lawful : Lawful byte_alphabet
+byte_lawful = record {
+  code_fits = λ x. omega (arith, x.fits);
+  code_tells = same_byte;
+  pair_alphanumeric = digits_alphanumeric;
+  some_pair = (48, 48, byte 0, refl);
+  signature_record_fits = omega arith;
+  format_record_fits = omega arith;
+  records_differ = λ e. omega arith;
+}
+
+pub mark_lawful : Lawful mark_alphabet
+mark_lawful = record {
+  code_fits = mark_code_fits;
+  code_tells = mark_code_tells;
+  pair_alphanumeric = mark_named_alphanumeric;
+  some_pair = (85, 48, Unread, refl);
+  signature_record_fits = omega arith;
+  format_record_fits = omega arith;
+  records_differ = λ e. omega arith;
+}

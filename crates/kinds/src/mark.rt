@@ -1,6 +1,7 @@
 // An axle mark as an element of a reading.
 ghost use Rattle.std.specs.Prelude.{◌<◌};
 
+pub mod digits;
 pub mod kind;
 
 // The band of the distance to the axle before: one decimal digit.

@@ -32,7 +32,6 @@ impl<R: Reading<Element = Byte>> Reading for Marks<R> {
     }
 
     fn at(&self, place: u32) -> Option<Mark> {
-        let byte = self.bytes.at(place)?;
-        Some(Mark::of_byte(byte))
+        self.bytes.at(place).map(Mark::from)
     }
 }

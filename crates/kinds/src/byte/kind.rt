@@ -1,23 +1,24 @@
 // Bytes are a kind: the code is the value, the pair two hexadecimal digits in upper case.
-ghost use Rattle.std.specs.Prelude.{◌≡◌, refl};
+ghost use Rattle.std.specs.Prelude.{◌≡◌};
 ghost use Rattle.kinds.specs.Bytes.{byte, hexadecimal, byte_alphabet};
-ghost use Rattle.std.proofs.Common.{arith};
-ghost use Rattle.kinds.specs.Elements.{same_byte, digits_alphanumeric};
+ghost use Rattle.kinds.specs.Elements.{byte_lawful};
 
 use crate::byte::Byte;
 use crate::kind::Kind;
 
-impl Byte {
-    pub fn new(value: u8) -> Byte
-        ensures { result ≡ byte value }
-    {
+impl From<u8> for Byte {
+    ghost from_gives = { λ value made. made ≡ byte value };
+
+    fn from(value: u8) -> Byte {
         Byte { value }
     }
+}
 
-    pub fn value(self) -> u8
-        ensures { result ≡ self.value }
-    {
-        self.value
+impl From<Byte> for u8 {
+    ghost from_gives = { λ byte value. value ≡ byte.value };
+
+    fn from(byte: Byte) -> u8 {
+        byte.value
     }
 }
 
@@ -35,15 +36,7 @@ fn digit(c: u8) -> Option<u8>
 impl Kind for Byte {
     ghost alphabet = { byte_alphabet };
 
-    ghost lawful = { record {
-      code_fits = λ x. omega (arith, x.fits);
-      code_tells = same_byte;
-      pair_alphanumeric = digits_alphanumeric;
-      some_pair = (48, 48, byte 0, refl);
-      signature_record_fits = omega arith;
-      format_record_fits = omega arith;
-      records_differ = λ e. omega arith;
-    } };
+    ghost lawful = { byte_lawful };
 
     fn code(self) -> u16 {
         u16::from(self.value)
@@ -52,7 +45,7 @@ impl Kind for Byte {
     fn named(first: u8, second: u8) -> Option<Byte> {
         let high = digit(first)?;
         let low = digit(second)?;
-        Some(Byte::new(high * 16 + low))
+        Some(Byte::from(high * 16 + low))
     }
 
     fn signature_record() -> u16 {

@@ -1,16 +1,12 @@
 // Axle marks are a kind: U0, S0 to S9, D0 to D9.
-ghost use Rattle.std.specs.Prelude.{◌≡◌, Some, refl};
-ghost use Rattle.kinds.specs.AxleMarks.{banded, digit_of, mark_of, mark_pair, mark_alphabet};
-ghost use Rattle.std.proofs.Common.{arith};
-ghost use Rattle.kinds.specs.declared.mark.Mark.TheVariants.{Unread};
-ghost use Rattle.kinds.specs.Elements.{mark_code_fits, mark_code_tells, mark_named_alphanumeric};
+ghost use Rattle.std.specs.Prelude.{◌≡◌, Some};
+ghost use Rattle.kinds.specs.AxleMarks.{mark_of, mark_pair, mark_text, mark_alphabet};
+ghost use Rattle.kinds.specs.Elements.{mark_lawful};
 
 use crate::byte::Byte;
 use crate::kind::Kind;
 use crate::mark::{Band, Mark};
-
-// How many bands there are.
-const BANDS: u8 = 10;
+use std::fmt;
 
 // The bytes of a strip reading that stand for an axle on single tyres, and for one on dual tyres: S0 to S9, D0 to D9.
 const SINGLE_FIRST: u8 = 0x10;
@@ -21,43 +17,20 @@ const DUAL_FIRST: u8 = 0x20;
 
 const DUAL_LAST: u8 = 0x29;
 
-impl Band {
-    pub fn new(digit: u8) -> Option<Band>
-        ensures { result ≡ banded digit }
-    {
-        if digit < BANDS {
-            Some(Band { digit })
-        } else {
-            None
-        }
-    }
+// The mark that a byte of a strip reading stands for.
+impl From<Byte> for Mark {
+    ghost from_gives = { λ byte mark. mark ≡ mark_of byte };
 
-    pub fn digit(self) -> u8
-        ensures { result ≡ digit_of self }
-    {
-        self.digit
+    fn from(byte: Byte) -> Mark {
+        match u8::from(byte) {
+            n @ SINGLE_FIRST..=SINGLE_LAST => Mark::Single(Band::of_digit(n - SINGLE_FIRST)),
+            n @ DUAL_FIRST..=DUAL_LAST => Mark::Dual(Band::of_digit(n - DUAL_FIRST)),
+            _ => Mark::Unread,
+        }
     }
 }
 
 impl Mark {
-    // The mark that a byte of a strip reading stands for.
-    pub fn of_byte(byte: Byte) -> Mark
-        ensures { result ≡ mark_of byte }
-    {
-        let value = byte.value();
-        if SINGLE_FIRST <= value && value <= SINGLE_LAST {
-            Mark::Single(Band {
-                digit: value - SINGLE_FIRST,
-            })
-        } else if DUAL_FIRST <= value && value <= DUAL_LAST {
-            Mark::Dual(Band {
-                digit: value - DUAL_FIRST,
-            })
-        } else {
-            Mark::Unread
-        }
-    }
-
     // The letter and the digit that name the mark.
     pub fn pair(self) -> (u8, u8)
         ensures written { result ≡ mark_pair self }
@@ -71,18 +44,19 @@ impl Mark {
     }
 }
 
+impl fmt::Display for Mark {
+    ghost output = { λ mark. Some (mark_text mark) };
+
+    fn fmt<W: fmt::Write>(&self, f: &mut fmt::Formatter<W>) -> fmt::Result {
+        let (letter, digit) = self.pair();
+        write!(f, "{}{}", char::from(letter), char::from(digit))
+    }
+}
+
 impl Kind for Mark {
     ghost alphabet = { mark_alphabet };
 
-    ghost lawful = { record {
-      code_fits = mark_code_fits;
-      code_tells = mark_code_tells;
-      pair_alphanumeric = mark_named_alphanumeric;
-      some_pair = (85, 48, Unread, refl);
-      signature_record_fits = omega arith;
-      format_record_fits = omega arith;
-      records_differ = λ e. omega arith;
-    } };
+    ghost lawful = { mark_lawful };
 
     fn code(self) -> u16 {
         match self {
@@ -96,7 +70,7 @@ impl Kind for Mark {
         if second < b'0' {
             return None;
         }
-        let band = Band::new(second - b'0')?;
+        let band = Band::try_from(second - b'0').ok()?;
         match first {
             b'U' if band.digit == 0 => Some(Mark::Unread),
             b'S' => Some(Mark::Single(band)),

@@ -1,7 +1,7 @@
 -- What stands at a place of a list that is reversed, mapped or cut.
-use Rattle.std.proofs.Common.{◌≡◌, ℕ, zero, suc, ◌+◌, ◌-◌, ◌<◌, ◌≤◌, min, List, [], ◌∷◌, ◌++◌, map, reverse, length, take, Some, None, Option, sym, refl, ap, ◌∙◌, ⊎_elim, add-one, arith, take_all, Bor}
+use Rattle.std.proofs.Common.{◌≡◌, ℕ, zero, suc, ◌+◌, ◌-◌, ◌<◌, ◌≤◌, min, List, [], ◌∷◌, ◌++◌, map, reverse, length, take, Some, None, Option, sym, refl, ap, ◌∙◌, ⊎_elim, add-one, add-zero, zero-add, arith, take_all, Bor}
 use lib.ListN.{length-reverse}
-use Rattle.std.specs.List.{slice_get}
+use Rattle.std.specs.List.{slice_get, cons_option, filter_map, range_with_len}
 use Rattle.std.specs.Option.{option_map}
 use Rattle.std.specs.Slice.{IsGetResult}
 use Rattle.std.proofs.lemmas.List.{get_or-reverse}
@@ -36,6 +36,17 @@ take_min n xs =
     (λ h. let m : min (length xs) n ≡ length xs = omega arith in ap (λ k. take k xs) m ∙ take_all (length xs) xs (omega arith) ∙ sym (take_all n xs (omega arith)))
     (λ h. let m : min (length xs) n ≡ n = omega arith in ap (λ k. take k xs) m)
     (cases_lt (length xs) n)
+
+-- what stands at the places of a list, one after the other, is the list
+pub filter_map-places : {X : Type 0} (xs : List X) → filter_map (slice_get xs) (range_with_len 0 (length xs)) ≡ xs
+filter_map-places xs = from xs (slice_get xs) 0 (λ k. rw zero-add)
+  where
+    from : {X : Type 0} (ys : List X) (at : ℕ → Option X) (a : ℕ) → ((k : ℕ) → at (a + k) ≡ slice_get ys k) → filter_map at (range_with_len a (length ys)) ≡ ys
+    from [] at a h = refl
+    from (y ∷ ys) at a h =
+        let first : at a ≡ Some y = ap at (sym (add-zero a)) ∙ h 0 in
+        let rest : filter_map at (range_with_len (a + 1) (length ys)) ≡ ys = from ys at (a + 1) (λ k. let e : a + 1 + k ≡ a + suc k = omega arith in ap at e ∙ h (suc k)) in
+        ap (λ o. cons_option o (filter_map at (range_with_len (a + 1) (length ys)))) first ∙ ap (λ l. y ∷ l) rest
 
 -- one element more of a list, as a place gives it
 pub take_nth : {X : Type 0} (xs : List X) (i : ℕ) (x : X) → slice_get xs i ≡ Some x → take (i + 1) xs ≡ take i xs ++ x ∷ []

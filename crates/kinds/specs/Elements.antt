@@ -6,7 +6,7 @@ use Rattle.std.proofs.Math.Bridge.{le_prop}
 use Rattle.std.proofs.lemmas.Bool.Decides.{nat_tests}
 use Rattle.kinds.specs.Alphabet.{Lawful, alphanumeric}
 use Rattle.kinds.specs.Bytes.{byte, byte_alphabet, hexadecimal, of_digits}
-use Rattle.kinds.specs.AxleMarks.{band, mark_alphabet, mark_code, mark_named, mark_of, mark_pair}
+use Rattle.kinds.specs.AxleMarks.{band, mark_alphabet, mark_code, mark_named, mark_pair}
 use Rattle.kinds.specs.declared.byte.Byte.{Byte}
 use Rattle.kinds.specs.declared.mark.Band.{Band}
 use Rattle.kinds.specs.declared.mark.Mark.{Mark}

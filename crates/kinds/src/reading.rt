@@ -24,11 +24,7 @@ pub trait Reading {
 pub fn to_vec<R: Reading>(heap: Global, reading: &R) -> Result<Vec<R::Element>, AllocError>
     ensures { IfOk result (λ v. v.items ≡ R.elements reading.now) }
 {
-    let mut items = Vec::new(heap);
-    for place in 0..reading.len() {
-        if let Some(x) = reading.at(place) {
-            items.push(x)?;
-        }
-    }
-    Ok(items)
+    (0..reading.len())
+        .filter_map(|place| reading.at(place))
+        .collect(heap)
 }

@@ -2,7 +2,7 @@
 ghost use Rattle.std.specs.Prelude.{◌≡◌};
 ghost use Rattle.kinds.specs.declared.spelling.SpellingFault.TheVariants.{Memory};
 
-use std::alloc::{AllocError, AllocFailed};
+use std::alloc::AllocError;
 
 pub mod reader;
 
@@ -21,14 +21,6 @@ impl From<AllocError> for SpellingFault {
     ghost from_gives = { λ _ r. r ≡ Memory };
 
     fn from(_e: AllocError) -> SpellingFault {
-        SpellingFault::Memory
-    }
-}
-
-impl<T: Drop> From<AllocFailed<T>> for SpellingFault {
-    ghost from_gives = { λ _ r. r ≡ Memory };
-
-    fn from(_e: AllocFailed<T>) -> SpellingFault {
         SpellingFault::Memory
     }
 }

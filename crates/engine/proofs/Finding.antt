@@ -6,8 +6,8 @@ use Rattle.kinds.specs.Fragments.{Anchor}
 use Rattle.kinds.specs.Grammar.{Placed}
 use Rattle.kinds.specs.Patterns.{Item, AtMost, mirrored}
 use Rattle.kinds.specs.Search.{stands_at}
-use Rattle.kinds.proofs.Anchors.{Bounded, sum_span, spans_at_most, stands_decides, reach_left, reach_right, reach_on, ends_left}
-use Rattle.kinds.proofs.Searches.{Spans, Ends}
+use Rattle.kinds.specs.Spans.{Bounded, Spans, Ends, sum_span}
+use Rattle.kinds.proofs.Anchors.{spans_at_most, stands_decides, reach_left, reach_right, reach_on, ends_left}
 use Rattle.rows.specs.Rows.{member, NoneFrom, FirstFrom}
 use Rattle.rows.specs.declared.Row.{Row}
 use Rattle.engine.specs.Finding.{Reached, part_of, Start, Sides, LeastThrough}

@@ -7,7 +7,8 @@ use Rattle.kinds.specs.Grammar.{Placed}
 use Rattle.kinds.specs.Patterns.{AtMost}
 use Rattle.kinds.specs.Search.{first_fit, least_end, stands_at}
 use Rattle.kinds.specs.declared.pattern.Reference.{Reference}
-use Rattle.kinds.proofs.Anchors.{Anchored, BestBefore, FirstFit, NoLess, first_fit_exactly, anchor_splits, stands_decides, spans_at_most, best_none, best_on, best_kept, best_more, best_all, best_least}
+use Rattle.kinds.specs.Spans.{Anchored, NoLess}
+use Rattle.kinds.proofs.Anchors.{BestBefore, FirstFit, first_fit_exactly, anchor_splits, stands_decides, spans_at_most, best_none, best_on, best_kept, best_more, best_all, best_least}
 use Rattle.kinds.proofs.Searches.{least_end_is}
 use Rattle.engine.specs.Codes.{not_past, ShiftsOf}
 use Rattle.engine.specs.Finding.{smaller_of, Bounds, LeastThrough}

@@ -13,7 +13,8 @@ use Rattle.kinds.specs.Reader.{items_of}
 use Rattle.kinds.specs.Search.{found}
 use Rattle.kinds.specs.declared.pattern.Reference.{Reference}
 use Rattle.kinds.specs.declared.pattern.Reference.TheVariants.{Front, Back, Anywhere}
-use Rattle.kinds.proofs.Anchors.{Small, any_break, fragments_small, anchor_codes}
+use Rattle.kinds.specs.Spans.{Small}
+use Rattle.kinds.proofs.Anchors.{any_break, fragments_small, anchor_codes}
 use Rattle.kinds.proofs.Backs.{mirrored_placed_twice, limits_mirrored, literals_mirrored, found_from_back}
 use Rattle.kinds.proofs.Decisions.{hits_exactly}
 use Rattle.kinds.proofs.Searches.{found_exactly, cut_gap, cut_thing, cut_held}

@@ -4,8 +4,7 @@ use Rattle.kinds.specs.Fragments.{Anchor, bodies}
 use Rattle.kinds.specs.Grammar.{Placed}
 use Rattle.kinds.specs.Patterns.{Item, AtMost, mirrored}
 use Rattle.kinds.specs.Search.{reaches}
-use Rattle.kinds.proofs.Anchors.{Anchored, SmallParts}
-use Rattle.kinds.proofs.Searches.{Spans}
+use Rattle.kinds.specs.Spans.{Anchored, SmallParts, Spans}
 use Rattle.rows.specs.Rows.{member}
 use Rattle.rows.specs.declared.Row.{Row}
 use Rattle.engine.specs.declared.fragment.Fragment.{Fragment}

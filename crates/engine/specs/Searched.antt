@@ -4,7 +4,7 @@ use Rattle.kinds.specs.Fragments as spec
 use Rattle.kinds.specs.Fragments.{anchor, bodies, fragments, mirrored_placed, oriented}
 use Rattle.kinds.specs.Grammar.{Placed, Ordered, start}
 use Rattle.kinds.specs.declared.pattern.Reference.{Reference}
-use Rattle.kinds.proofs.Anchors.{Small}
+use Rattle.kinds.specs.Spans.{Small}
 use Rattle.engine.specs.Compiled.{Holds, Hold}
 use Rattle.engine.specs.Limits.{refusal}
 use Rattle.engine.specs.declared.fragment.Fragment.{Fragment}

@@ -7,7 +7,7 @@ ghost use Rattle.engine.specs.Finding.{smaller_of, Bounds, LeastThrough, Sides, 
 ghost use Rattle.engine.specs.Reading.{held};
 ghost use Rattle.engine.specs.Searched.{Searched};
 ghost use Rattle.engine.specs.declared.run.Run.{Run};
-ghost use Rattle.kinds.proofs.Anchors.{NoLess};
+ghost use Rattle.kinds.specs.Spans.{NoLess};
 ghost use Rattle.kinds.specs.Fragments as spec;
 ghost use Rattle.kinds.specs.Fragments.{bodies, Anchor};
 ghost use Rattle.kinds.specs.Patterns.{AtMost};

@@ -9,12 +9,13 @@ use Rattle.kinds.specs.Fragments.{Fragment, fragments, cut_from, bodies, sum, le
 use Rattle.kinds.specs.Fragments.{Anchor, ended, literal_code, is_literal, literal_runs, better, best, anchor, sum_least}
 use Rattle.kinds.specs.Grammar.{Placed}
 use Rattle.kinds.specs.Patterns.{Item, literal, any, group, range, other, gap, Among, AtMost, Matches, Cut, matches, mirrored}
+use Rattle.kinds.specs.Spans.{Spans, Ends, Bounded, Small, SmallParts, Anchored, NoLess, sum_span}
 use Rattle.kinds.specs.Search.{stretch, least_end, stands_at, first_fit_from, first_fit, reaches}
 use Rattle.kinds.specs.declared.pattern.Reference.{Reference}
 use Rattle.kinds.specs.declared.pattern.Reference.TheVariants.{Front, Back, Anywhere}
 use Rattle.kinds.proofs.Decisions.{same_decides, cuts_decides, matches_decides}
 use Rattle.kinds.proofs.Mirrors.{mirrored_twice, cut_one, cut_mirrored}
-use Rattle.kinds.proofs.Searches.{length_stretch, Spans, spans_joined, spans_parted, Ends, LeastEnd, least_end_is, bodies_append, cut_gap, cut_thing, cut_held, kept_none, fragments_none}
+use Rattle.kinds.proofs.Searches.{length_stretch, spans_joined, spans_parted, LeastEnd, least_end_is, bodies_append, cut_gap, cut_thing, cut_held, kept_none, fragments_none}
 
 -- The anchor is a part of the items.
 
@@ -312,11 +313,6 @@ reaches_more is i xs j = Decides-like (reaches (is ++ i ∷ []) xs j) there back
 
 -- How far items span.
 
--- the sum of the items' spans
-abbrev pub sum_span : List Item → ℕ
-sum_span [] = 0
-sum_span (i ∷ is) = span i + sum_span is
-
 -- the same of placed items
 pub sum_span_bodies : (qs : List Placed) → sum_span (bodies qs) ≡ sum span qs
 sum_span_bodies [] = refl
@@ -331,10 +327,6 @@ sum_span_append (i ∷ is) js = omega (arith, sum_span_append is js)
 pub sum_span_literals : (codes : List ℕ) → sum_span (map literal codes) ≡ length codes
 sum_span_literals [] = refl
 sum_span_literals (c ∷ cs) = omega (arith, sum_span_literals cs)
-
--- an item that is no gap without upper end
-abbrev pub Bounded : Item → Type 0
-Bounded i = endless i ≡ false
 
 -- one of some runs is no longer than the longest
 among_longest : (xs : List ℕ) (runs : List (List ℕ)) → Among xs runs → length xs ≤ longest runs
@@ -447,11 +439,6 @@ limits_span (f ∷ fs) number o e =
     let (was, ok) = kept_none _ o (first_place f.body) (fragments_none fs (suc number) _ e) in
     (ltb-false 1024 (sum span f.body) (or_parts (leb 8 number) (ltb 1024 (sum span f.body)) ok).1, limits_span fs (suc number) _ e)
 
--- what a search relies on of a fragment's items: no endless gap, and a span of at most 1,024
-pub record Small (items : List Item) : Type 0 where
-  pub bounded : All Bounded items
-  pub short : sum_span items ≤ 1024
-
 -- the fragments of a pattern within the limits are small
 pub fragments_small : (qs : List Placed) (lo : ℕ) → limit_place qs ≡ None → All (λ f. Small (bodies f.body)) (fragments lo qs)
 fragments_small qs lo within =
@@ -467,12 +454,6 @@ fragments_small qs lo within =
 all_parts : {X : Type 0} (P : X → Type 0) (xs ys : List X) → All P (xs ++ ys) → All P xs × All P ys
 all_parts P [] ys h = (tt, h)
 all_parts P (x ∷ xs) ys (p, h) = let (a, b) = all_parts P xs ys h in ((p, a), b)
-
--- the parts of a small fragment's anchor: no endless gap, and together a span of at most 1,024
-pub record SmallParts (a : Anchor) : Type 0 where
-  pub front_bounded : All Bounded a.front
-  pub back_bounded : All Bounded a.back
-  pub short : sum_span a.front + length a.codes + sum_span a.back ≤ 1024
 
 -- what splits small items has small parts
 pub small_parts : (items : List Item) (a : Anchor) → Splits items a → Small items → SmallParts a
@@ -514,17 +495,6 @@ pub first_fit_exactly : (codes xs : List ℕ) (from : ℕ) → FirstFit codes xs
 first_fit_exactly codes xs from = fit_from codes xs (suc (length xs) - from) from (omega arith)
 
 -- Least ends through anchors.
-
--- a placement that ends at e, of which the anchor stands at p
-pub record Anchored (front : List Item) (codes : List ℕ) (back : List Item) (from : ℕ) (until : Option ℕ) (xs : List ℕ) (p e : ℕ) : Type 0 where
-  pub before : Ends front from until xs p
-  pub stands : stands_at codes xs p ≡ true
-  pub behind : Spans back xs (p + length codes) e
-
--- an end is no less than the best
-abbrev pub NoLess : Option ℕ → ℕ → Type 0
-NoLess None e = ⊥
-NoLess (Some b) e = b ≤ e
 
 -- the best, if there is one, is an end through an anchor before p
 abbrev pub Held : List Item → List ℕ → List Item → ℕ → Option ℕ → List ℕ → ℕ → Option ℕ → Type 0

@@ -10,7 +10,8 @@ use Rattle.kinds.specs.Grammar.{Placed, Position, start, gap_allowed, may_end, a
 use Rattle.kinds.specs.Patterns.{Item, literal, any, group, range, other, gap, same, up_to, reversed_runs, mirrored_item, mirrored, hits}
 use Rattle.kinds.specs.Search.{FoundFromBack}
 use Rattle.kinds.specs.declared.pattern.Reference.TheVariants.{Front, Back}
-use Rattle.kinds.proofs.Anchors.{thing_bounded, Small, fragments_small, sum_span_bodies}
+use Rattle.kinds.specs.Spans.{Small}
+use Rattle.kinds.proofs.Anchors.{thing_bounded, fragments_small, sum_span_bodies}
 use Rattle.kinds.proofs.Decisions.{same_decides}
 use Rattle.kinds.proofs.Mirrors.{mirrored_item_twice, compared_turned, mirrored_alike}
 use Rattle.kinds.proofs.Searches.{bodies_append, cut_gap, cut_thing, cut_held, Right, kept_none, fragments_none, limits_right, found_exactly}

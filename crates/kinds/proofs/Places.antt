@@ -16,26 +16,10 @@ nth_reverse (x ∷ xs) k h =
     let same : length (reverse l) ≡ length l = length-reverse l in
     slice_get-get_or (reverse l) k x (omega arith) ∙ ap Some (get_or-reverse l k x h) ∙ sym (slice_get-get_or l (length l - 1 - k) x (omega arith))
 
-pub nth_reverse_past : {X : Type 0} (xs : List X) (k : ℕ) → length xs ≤ k → slice_get (reverse xs) k ≡ None
-nth_reverse_past xs k h = let same : length (reverse xs) ≡ length xs = length-reverse xs in slice_get_past (reverse xs) k (omega arith)
-
-pub nth_map : {X Y : Type 0} (f : X → Y) (xs : List X) (k : ℕ) → slice_get (map f xs) k ≡ option_map f (slice_get xs k)
-nth_map f [] k = refl
-nth_map f (x ∷ xs) zero = refl
-nth_map f (x ∷ xs) (suc k) = nth_map f xs k
-
 -- what a slice lends at an index, as the element or none
 pub nth_item : {X : Type 0} (xs : List X) (i : ℕ) (r : Option (Bor X)) → IsGetResult xs i i r → option_map (λ x. x.now) r ≡ slice_get xs i
 nth_item xs i None h = sym (slice_get_past xs i h.3)
 nth_item xs i (Some x) h = ap Some h.1 ∙ sym (slice_get-get_or xs i x.now h.3.0)
-
--- a list that is cut at its own length or at n, whichever is less, is cut at n
-pub take_min : {X : Type 0} (n : ℕ) (xs : List X) → take (min (length xs) n) xs ≡ take n xs
-take_min n xs =
-    ⊎_elim
-    (λ h. let m : min (length xs) n ≡ length xs = omega arith in ap (λ k. take k xs) m ∙ take_all (length xs) xs (omega arith) ∙ sym (take_all n xs (omega arith)))
-    (λ h. let m : min (length xs) n ≡ n = omega arith in ap (λ k. take k xs) m)
-    (cases_lt (length xs) n)
 
 -- what stands at the places of a list, one after the other, is the list
 pub filter_map-places : {X : Type 0} (xs : List X) → filter_map (slice_get xs) (range_with_len 0 (length xs)) ≡ xs
@@ -47,15 +31,6 @@ filter_map-places xs = from xs (slice_get xs) 0 (λ k. rw zero-add)
         let first : at a ≡ Some y = ap at (sym (add-zero a)) ∙ h 0 in
         let rest : filter_map at (range_with_len (a + 1) (length ys)) ≡ ys = from ys at (a + 1) (λ k. let e : a + 1 + k ≡ a + suc k = omega arith in ap at e ∙ h (suc k)) in
         ap (λ o. cons_option o (filter_map at (range_with_len (a + 1) (length ys)))) first ∙ ap (λ l. y ∷ l) rest
-
--- one element more of a list, as a place gives it
-pub take_nth : {X : Type 0} (xs : List X) (i : ℕ) (x : X) → slice_get xs i ≡ Some x → take (i + 1) xs ≡ take i xs ++ x ∷ []
-take_nth xs i x e = ap (λ k. take k xs) (add-one i) ∙ go xs i e
-  where
-    go : {X : Type 0} {x : X} (xs : List X) (i : ℕ) → slice_get xs i ≡ Some x → take (suc i) xs ≡ take i xs ++ x ∷ []
-    go [] i e = grind arith
-    go (y ∷ ys) zero e = cc
-    go (y ∷ ys) (suc i) e = ap (λ l. y ∷ l) (go ys i e)
 
 -- there is an element at each place of a list
 pub nth_none : {X : Type 0} (xs : List X) (i : ℕ) → slice_get xs i ≡ None → length xs ≤ i

@@ -8,6 +8,7 @@ use Rattle.std.proofs.lemmas.Bool.Decides.{same_from_decides, Decides-like, Deci
 use Rattle.kinds.specs.Fragments.{Fragment, fragments, cut_from, bodies, sum, least, some, is_gap, endless, wrong, least_with, wrong_place, fragment_place, limit_place, first_place}
 use Rattle.kinds.specs.Grammar.{Placed, Position, start, may_end, behind, Ordered}
 use Rattle.kinds.specs.Patterns.{Item, literal, any, group, range, other, gap, AtMost, Matches, Cut, Allowed, Placement, at_most, cuts, hits}
+use Rattle.kinds.specs.Spans.{Spans, Ends}
 use Rattle.kinds.specs.Search.{stretch, ends_at, least_end_from, least_end, found, FoundExactly}
 use Rattle.kinds.specs.declared.pattern.Reference.{Reference}
 use Rattle.kinds.specs.declared.pattern.Reference.TheVariants.{Front, Anywhere}
@@ -28,12 +29,6 @@ stretch_joined xs s m e h k =
     ap (λ l. stretch xs s m ++ take (e - m) l) (ap (λ n. drop n xs) (sym there) ∙ sym (drop-drop (m - s) s xs))
     ∙ sym (take-add (m - s) (e - m) (drop s xs))
     ∙ ap (λ n. take n (drop s xs)) parts
-
--- the items cut the elements from one place of a list to before another
-pub record Spans (items : List Item) (xs : List ℕ) (s e : ℕ) : Type 0 where
-  pub ordered : s ≤ e
-  pub inside : e ≤ length xs
-  pub cut : Cut items (stretch xs s e)
 
 -- what two parts of a pattern span, one behind the other, they span together
 pub spans_joined : (is js : List Item) (xs : List ℕ) (s m e : ℕ) → Spans is xs s m → Spans js xs m e → Spans (is ++ js) xs s e
@@ -68,13 +63,6 @@ spans_parted is js xs s e h =
     (m, before, behind)
 
 -- Least ends.
-
--- a placement of the items that starts from `from` to `until`, which may be no bound, and ends at e
-pub record Ends (items : List Item) (from : ℕ) (until : Option ℕ) (xs : List ℕ) (e : ℕ) : Type 0 where
-  pub begins : ℕ
-  pub late : from ≤ begins
-  pub early : AtMost until begins
-  pub spans : Spans items xs begins e
 
 -- the least end of such a placement, or none
 abbrev pub LeastEnd : List Item → ℕ → Option ℕ → List ℕ → Option ℕ → Type 0

@@ -19,15 +19,9 @@ same_byte x y e = λ i. record { value = e i; fits = is_prop→PathP (λ j. e j 
 pub same_band : (x y : Band) → x.digit ≡ y.digit → x ≡ y
 same_band x y e = λ i. record { digit = e i; decimal = is_prop→PathP (λ j. e j < 10) (λ j. le_prop) x.decimal y.decimal i }
 
--- a number that fits is the number of what is made of it
-pub is_byte : (x : Byte) (n : ℕ) → x.value ≡ n → x ≡ byte n
-is_byte x n e = same_byte x (byte n) (omega (arith, x.fits))
-
+-- a number that fits is the number of the band that is made of it
 pub is_band : (x : Band) (n : ℕ) → x.digit ≡ n → x ≡ band n
 is_band x n e = same_band x (band n) (omega (arith, x.decimal))
-
-pub hexadecimal_small : (c n : ℕ) → hexadecimal c ≡ Some n → n < 16
-hexadecimal_small c n e = grind (arith, nat_tests)
 
 pub hexadecimal_alphanumeric : (c n : ℕ) → hexadecimal c ≡ Some n → alphanumeric c ≡ true
 hexadecimal_alphanumeric c n e = grind (arith, nat_tests)

@@ -7,5 +7,6 @@ pub mod Patterns
 pub mod Reader
 pub mod Readings
 pub mod Search
+pub mod Spans
 pub mod Spelling
 pub mod Elements

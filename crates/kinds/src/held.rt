@@ -6,7 +6,7 @@ use crate::kind::Kind;
 use crate::reading::Reading;
 
 // The longest list that a reading can show.
-const LONGEST: usize = 4294967295;
+const LONGEST: usize = u32::MAX as usize;
 
 // Not `Copy`: a reading is handed over once.
 #[derive(Drop)]
@@ -17,12 +17,12 @@ pub struct Held<'a, K> {
 
 impl<'a, K: Kind> Held<'a, K> {
     // What a list holds, no further than a reading can show.
+    #[tactic(auto, using(std::proofs::lemmas::List::take_min))]
     pub fn new(items: &'a [K]) -> Held<'a, K>
         ensures { result.items.now ≡ shown items.now }
     {
-        let len = items.len().min(LONGEST);
         Held {
-            items: &items[0..len],
+            items: &items[..LONGEST.min(items.len())],
         }
     }
 }

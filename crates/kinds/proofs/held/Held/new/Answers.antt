@@ -1,9 +1,0 @@
-use Rattle.std.proofs.Common.{◌≡◌, ◌-◌, min, length, take, ap, ◌∙◌, arith}
-use Rattle.kinds.proofs.Places.{take_min}
-use Rattle.kinds.proofs.held.Held.new.Goals as goal
-
-pub returns : goal.returns
-returns g c =
-    let all = c.args.items.now in
-    let cut : c.min-len.result - 0 ≡ min (length all) 4294967295 = omega arith in
-    ap (λ k. take k all) cut ∙ take_min 4294967295 all

@@ -1,34 +1,24 @@
 // Compiles a pattern: its fragments, their anchors, and the numbers of their search.
-ghost use Rattle.std.specs.Prelude.{◌≡◌, ℕ, ◌+◌, ◌-◌, ◌<◌, ◌≤◌, true, List, map, length, take, drop, if◌then◌else◌, MatchResult};
+ghost use Rattle.std.specs.Prelude.{◌≡◌, ℕ, ◌+◌, ◌-◌, ◌<◌, ◌≤◌, true, List, map, length, take, drop, if◌then◌else◌, IfOk};
 ghost use Rattle.engine.specs.Compiled.{literal_codes, Holds, Hold};
 ghost use Rattle.engine.specs.Compiling.{part_items, replaces, Anchors, Shifts, Cuts};
 ghost use Rattle.engine.specs.Reading.{held};
 ghost use Rattle.engine.specs.Stored.{items as items_of, item_of, run_codes, all_runs_within, part_within, all_parts_within};
-ghost use Rattle.engine.specs.declared.cause.Cause.TheVariants.{Memory};
 ghost use Rattle.engine.specs.declared.run.Run.{Run as StoredRun};
 ghost use Rattle.kinds.specs.Fragments.{shortest as shortest_of, least as least_of, sum_least, fragments as fragments_from};
 
-use crate::cause::Cause;
-use crate::fault::Fault;
 use crate::fragment::{Fragment, INDICES};
 use crate::part::{Part, PlacedPart};
 use crate::pattern::Pattern;
 use crate::run::Run;
 use kinds::pattern::Reference;
-use std::alloc::Global;
+use std::alloc::{AllocError, Global};
 
-// A number that does not fit its type cannot be stored.
-const TOO_LARGE: Fault = Fault {
-    cause: Cause::Memory,
-    sequence: 0,
-    place: 0,
-};
-
-// The sum of two numbers of elements.
-fn sum(a: u64, b: u64) -> Result<u64, Fault>
-    ensures { MatchResult result (λ n. n ≡ a + b) (λ f. f.cause ≡ Memory) }
+// The sum of two numbers of elements. A number that does not fit its type cannot be stored.
+fn sum(a: u64, b: u64) -> Result<u64, AllocError>
+    ensures { IfOk result (λ n. n ≡ a + b) }
 {
-    a.checked_add(b).ok_or(TOO_LARGE)
+    a.checked_add(b).ok_or(AllocError)
 }
 
 // The length of the shortest run, 0 where there is none.
@@ -63,9 +53,9 @@ fn least(pattern: &Pattern, part: Part) -> usize
 }
 
 // The least number of elements that parts take.
-fn lead(pattern: &Pattern, parts: &[PlacedPart]) -> Result<u64, Fault>
+fn lead(pattern: &Pattern, parts: &[PlacedPart]) -> Result<u64, AllocError>
     requires { all_parts_within pattern.now.codes.items pattern.now.runs.items parts.now ≡ true }
-    ensures { MatchResult result (λ n. n ≡ sum_least (part_items pattern.now.codes.items pattern.now.runs.items parts.now)) (λ f. f.cause ≡ Memory) }
+    ensures { IfOk result (λ n. n ≡ sum_least (part_items pattern.now.codes.items pattern.now.runs.items parts.now)) }
 {
     let mut total = 0;
     for placed in parts {
@@ -75,18 +65,18 @@ fn lead(pattern: &Pattern, parts: &[PlacedPart]) -> Result<u64, Fault>
 }
 
 // The shift of an index that none of as many literals has.
-fn longest_shift(len: usize) -> Result<u32, Fault>
-    ensures { MatchResult result (λ n. n ≡ len + 1) (λ f. f.cause ≡ Memory) }
+fn longest_shift(len: usize) -> Result<u32, AllocError>
+    ensures { IfOk result (λ n. n ≡ len + 1) }
 {
-    match u32::try_from(len) {
-        Ok(n) => n.checked_add(1).ok_or(TOO_LARGE),
-        Err(_) => Err(TOO_LARGE),
-    }
+    u32::try_from(len)
+        .ok()
+        .and_then(|n| n.checked_add(1))
+        .ok_or(AllocError)
 }
 
 // The shift of each index: how far from behind the literals the last of them stands that has the index.
-fn shifts(literals: &[PlacedPart]) -> Result<[u32; INDICES], Fault>
-    ensures { MatchResult result (λ t. (codes : List ℕ) (runs : List StoredRun) → length (literal_codes (part_items codes runs literals.now)) ≡ length literals.now → Shifts t (literal_codes (part_items codes runs literals.now))) (λ f. f.cause ≡ Memory) }
+fn shifts(literals: &[PlacedPart]) -> Result<[u32; INDICES], AllocError>
+    ensures { IfOk result (λ t. (codes : List ℕ) (runs : List StoredRun) → length (literal_codes (part_items codes runs literals.now)) ≡ length literals.now → Shifts t (literal_codes (part_items codes runs literals.now))) }
 {
     let mut distance = longest_shift(literals.len())?;
     let mut table = [distance; INDICES];
@@ -149,8 +139,8 @@ struct Cut {
 
 // Cuts the first fragment off the parts that it begins: behind its body, and at the thing behind the first row of gaps
 // that has one without upper end.
-fn cut_first(parts: &[PlacedPart]) -> Result<Cut, Fault>
-    ensures { MatchResult result (λ c. (codes : List ℕ) (runs : List StoredRun) → Cuts (items_of codes runs parts.now) c.end c.next) (λ f. f.cause ≡ Memory) }
+fn cut_first(parts: &[PlacedPart]) -> Result<Cut, AllocError>
+    ensures { IfOk result (λ c. (codes : List ℕ) (runs : List StoredRun) → Cuts (items_of codes runs parts.now) c.end c.next) }
 {
     let mut end = 0;
     let mut endless = false;
@@ -177,9 +167,9 @@ fn fragment_at(
     first: usize,
     end: usize,
     gap: u64,
-) -> Result<Fragment, Fault>
+) -> Result<Fragment, AllocError>
     requires { (first ≤ end) × (end ≤ length pattern.now.parts.items) }
-    ensures { MatchResult result (λ f. Holds reference (held pattern.now) f (record { break = gap; body = take (end - first) (drop first (held pattern.now)) })) (λ f. f.cause ≡ Memory) }
+    ensures { IfOk result (λ f. Holds reference (held pattern.now) f (record { break = gap; body = take (end - first) (drop first (held pattern.now)) })) }
 {
     let parts = pattern.parts.as_slice();
     let body = &parts[first..end];
@@ -203,8 +193,8 @@ pub fn fragments_of(
     pattern: &Pattern,
     reference: Reference,
     lo: u16,
-) -> Result<Vec<Fragment>, Fault>
-    ensures { MatchResult result (λ v. Hold reference (held pattern.now) v.items (fragments_from lo (held pattern.now))) (λ f. f.cause ≡ Memory) }
+) -> Result<Vec<Fragment>, AllocError>
+    ensures { IfOk result (λ v. Hold reference (held pattern.now) v.items (fragments_from lo (held pattern.now))) }
 {
     let parts = pattern.parts.as_slice();
     let mut fragments = Vec::new(heap);

@@ -6,6 +6,7 @@ pub mod Examples
 pub mod Faults
 pub mod Finding
 pub mod Limits
+pub mod Parts
 pub mod Reaching
 pub mod Reading
 pub mod Scanning

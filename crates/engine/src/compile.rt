@@ -3,7 +3,8 @@ ghost use Rattle.std.specs.Prelude.{◌≡◌, ℕ, ◌+◌, ◌-◌, ◌<◌, �
 ghost use Rattle.engine.specs.Compiled.{literal_codes, Holds, Hold};
 ghost use Rattle.engine.specs.Compiling.{part_items, replaces, Anchors, Shifts, Cuts};
 ghost use Rattle.engine.specs.Reading.{held};
-ghost use Rattle.engine.specs.Stored.{items as items_of, item_of, run_codes, all_runs_within, part_within, all_parts_within};
+ghost use Rattle.engine.specs.Parts.{item_in, items_in, HasPart, HasParts};
+ghost use Rattle.engine.specs.Stored.{items as items_of, run_codes, all_runs_within};
 ghost use Rattle.engine.specs.declared.run.Run.{Run as StoredRun};
 ghost use Rattle.kinds.specs.Fragments.{shortest as shortest_of, least as least_of, sum_least, fragments as fragments_from};
 
@@ -37,8 +38,8 @@ fn shortest(runs: &[Run]) -> usize
 
 // The least number of elements that a part takes.
 fn least(pattern: &Pattern, part: Part) -> usize
-    requires { part_within pattern.now.codes.items pattern.now.runs.items part ≡ true }
-    ensures { result ≡ least_of (item_of pattern.now.codes.items pattern.now.runs.items part) }
+    requires { HasPart pattern.now part }
+    ensures { result ≡ least_of (item_in pattern.now part) }
 {
     match part {
         Part::Literal(_) | Part::Any => 1,
@@ -54,8 +55,8 @@ fn least(pattern: &Pattern, part: Part) -> usize
 
 // The least number of elements that parts take.
 fn lead(pattern: &Pattern, parts: &[PlacedPart]) -> Result<u64, AllocError>
-    requires { all_parts_within pattern.now.codes.items pattern.now.runs.items parts.now ≡ true }
-    ensures { IfOk result (λ n. n ≡ sum_least (part_items pattern.now.codes.items pattern.now.runs.items parts.now)) }
+    requires { HasParts pattern.now parts.now }
+    ensures { IfOk result (λ n. n ≡ sum_least (items_in pattern.now parts.now)) }
 {
     let mut total = 0;
     for placed in parts {

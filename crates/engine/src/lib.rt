@@ -3,6 +3,7 @@
 
 pub mod cause;
 pub mod compile;
+mod contents;
 mod context;
 pub mod fault;
 mod find;

@@ -2,7 +2,7 @@
 ghost use Rattle.std.specs.Prelude.{◌≡◌, ◌-◌, ◌^◌, ◌<◌, true, length};
 ghost use Rattle.engine.specs.Limits.{refusal};
 ghost use Rattle.engine.specs.Reading.{held};
-ghost use Rattle.engine.specs.Stored.{run_codes, item_of, placed_of, run_within, part_within};
+ghost use Rattle.engine.specs.Parts.{item_in, placed_in, HasPart};
 ghost use Rattle.engine.specs.Tallies.{longest_run, single, joined, initial, smallest_with, closed, with_gap, with_thing, with_item, tallied};
 ghost use Rattle.kinds.specs.Fragments.{span as spanned, fragments, before, wrong};
 
@@ -40,16 +40,6 @@ struct Tally {
     bare: Option<usize>,
 }
 
-// The codes of a run.
-pub(crate) fn codes_of(pattern: &Pattern, run: Run) -> &[u16]
-    requires { run_within pattern.now.codes.items run ≡ true }
-    ensures { result.now ≡ run_codes pattern.now.codes.items run }
-{
-    let start = run.start;
-    let end = start + run.len;
-    &pattern.codes.as_slice()[start..end]
-}
-
 // Whether one run comes before another of its length, compared from the first element on or from the last.
 fn comes_before(direction: Direction, low: &[u16], high: &[u16]) -> bool
     ensures { result ≡ before direction low.now high.now }
@@ -83,8 +73,8 @@ fn longest(runs: &[Run]) -> usize
 
 // How many elements an item spans.
 fn span(pattern: &Pattern, part: Part) -> usize
-    requires { part_within pattern.now.codes.items pattern.now.runs.items part ≡ true }
-    ensures { result ≡ spanned (item_of pattern.now.codes.items pattern.now.runs.items part) }
+    requires { HasPart pattern.now part }
+    ensures { result ≡ spanned (item_in pattern.now part) }
 {
     match part {
         Part::Literal(_) | Part::Any => 1,
@@ -100,8 +90,8 @@ fn span(pattern: &Pattern, part: Part) -> usize
 
 // Whether an item is beyond a limit by itself.
 fn is_wrong(pattern: &Pattern, part: Part) -> bool
-    requires { part_within pattern.now.codes.items pattern.now.runs.items part ≡ true }
-    ensures { result ≡ wrong (item_of pattern.now.codes.items pattern.now.runs.items part) }
+    requires { HasPart pattern.now part }
+    ensures { result ≡ wrong (item_in pattern.now part) }
 {
     match part {
         Part::Range {
@@ -109,7 +99,7 @@ fn is_wrong(pattern: &Pattern, part: Part) -> bool
             low,
             high,
             ..
-        } => !comes_before(direction, codes_of(pattern, low), codes_of(pattern, high)),
+        } => !comes_before(direction, pattern.run_codes(low), pattern.run_codes(high)),
         Part::Gap(
             Gap {
                 least,
@@ -142,8 +132,8 @@ impl Stretch {
 
     // One item.
     fn of(pattern: &Pattern, part: PlacedPart) -> Stretch
-        requires { part_within pattern.now.codes.items pattern.now.runs.items part.part ≡ true }
-        ensures { result ≡ single (placed_of pattern.now.codes.items pattern.now.runs.items part) }
+        requires { HasPart pattern.now part.part }
+        ensures { result ≡ single (placed_in pattern.now part) }
     {
         Stretch {
             start: Some(part.place),
@@ -229,8 +219,8 @@ impl Tally {
     // One more item.
     fn with_item(self, pattern: &Pattern, part: PlacedPart) -> Tally
         requires ended { self.ended < 2 ^ 64 - 1 }
-        requires inside { part_within pattern.now.codes.items pattern.now.runs.items part.part ≡ true }
-        ensures { result ≡ with_item self (placed_of pattern.now.codes.items pattern.now.runs.items part) }
+        requires inside { HasPart pattern.now part.part }
+        ensures { result ≡ with_item self (placed_in pattern.now part) }
     {
         let judged = Tally {
             limit: smallest(self.limit, is_wrong(pattern, part.part), part.place),

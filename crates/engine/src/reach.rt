@@ -6,13 +6,12 @@ ghost use Rattle.std.specs.Ordering.{nat_cmp};
 ghost use Rattle.engine.specs.Codes.{codes_of};
 ghost use Rattle.engine.specs.Finding.{Reached, part_of};
 ghost use Rattle.engine.specs.Reading.{held};
-ghost use Rattle.engine.specs.Stored.{item_of, part_within, run_codes, all_runs_within};
+ghost use Rattle.engine.specs.Parts.{item_in, run_in, HasPart, HasRuns};
 ghost use Rattle.engine.specs.Reaching.{matches_at, range_item, Stepped};
 ghost use Rattle.kinds.specs.Patterns.{any, compared, gap as spaced, group, literal, matches, range};
 ghost use Rattle.kinds.specs.Search.{stretch};
 ghost use Rattle.kinds.specs.declared.pattern.Direction.TheVariants.{FirstOn};
 
-use crate::limits::codes_of;
 use crate::part::Part;
 use crate::pattern::Pattern;
 use crate::run::Run;
@@ -159,13 +158,13 @@ impl<'c, 'r, R: Reading> Question for Ranging<'c, 'r, R> {
 
 // Moves a row on behind one of some runs.
 fn pass_group<R: Reading>(pattern: &Pattern, runs: &[Run], row: &mut Row, reading: &R)
-    requires { all_runs_within pattern.now.codes.items runs.now ≡ true }
-    ensures { Stepped (group (map (run_codes pattern.now.codes.items) runs.now)) row.old (codes_of R.Element.alphabet (R.elements reading.now)) row.new }
+    requires { HasRuns pattern.now runs.now }
+    ensures { Stepped (group (map (run_in pattern.now) runs.now)) row.old (codes_of R.Element.alphabet (R.elements reading.now)) row.new }
 {
     let mut all = Row::none();
     for run in runs {
         let mut on = *row;
-        RunRange::of_one(true, codes_of(pattern, *run)).pass(&mut on, reading);
+        RunRange::of_one(true, pattern.run_codes(*run)).pass(&mut on, reading);
         all = all.union(on);
     }
     *row = all;
@@ -173,15 +172,14 @@ fn pass_group<R: Reading>(pattern: &Pattern, runs: &[Run], row: &mut Row, readin
 
 // Moves a row on behind a part.
 fn pass<R: Reading>(pattern: &Pattern, part: Part, row: &mut Row, reading: &R)
-    requires { part_within pattern.now.codes.items pattern.now.runs.items part ≡ true }
-    ensures { Stepped (item_of pattern.now.codes.items pattern.now.runs.items part) row.old (codes_of R.Element.alphabet (R.elements reading.now)) row.new }
+    requires { HasPart pattern.now part }
+    ensures { Stepped (item_in pattern.now part) row.old (codes_of R.Element.alphabet (R.elements reading.now)) row.new }
 {
     match part {
         Part::Literal(code) => pass_literal(code, row, reading),
         Part::Any => pass_any(row, reading.len()),
         Part::Group { first, count } => {
-            let runs = &pattern.runs.as_slice()[first..first + count];
-            pass_group(pattern, runs, row, reading);
+            pass_group(pattern, pattern.runs_of(first, count), row, reading);
         }
         Part::Range {
             direction,
@@ -192,12 +190,12 @@ fn pass<R: Reading>(pattern: &Pattern, part: Part, row: &mut Row, reading: &R)
             let range = RunRange {
                 direction,
                 inside,
-                low: codes_of(pattern, low),
-                high: codes_of(pattern, high),
+                low: pattern.run_codes(low),
+                high: pattern.run_codes(high),
             };
             range.pass(row, reading);
         }
-        Part::Other(run) => RunRange::of_one(false, codes_of(pattern, run)).pass(row, reading),
+        Part::Other(run) => RunRange::of_one(false, pattern.run_codes(run)).pass(row, reading),
         Part::Gap(gap) => pass_gap(gap, row, reading.len()),
     }
 }

@@ -13,8 +13,8 @@ use Rattle.engine.proofs.reach.pass_group.Goals as goal
 pub loop-run-init : goal.loop-run-init
 loop-run-init g c = group_none c.args.row.now (codes_of g.R.Element.Kind.alphabet (g.R.Reading.elements c.args.reading.now)) c.none-all.result c.none-all.ensures
 
-pub codes_of-requires : goal.codes_of-requires
-codes_of-requires g c = run_at_within (vec_items c.args.pattern.now.codes) c.args.runs.now c.loop-run.run-index (record { start = 0; len = 0 }) c.requires c.loop-run-test.true
+pub run_codes-requires : goal.run_codes-requires
+run_codes-requires g c = run_at_within (vec_items c.args.pattern.now.codes) c.args.runs.now c.loop-run.run-index (record { start = 0; len = 0 }) c.requires c.loop-run-test.true
 
 pub loop-run-preserved : goal.loop-run-preserved
 loop-run-preserved g c =
@@ -25,7 +25,7 @@ loop-run-preserved g c =
     let none : Run = record { start = 0; len = 0 } in
     subst (λ runs. Stepped (group runs) c.args.row.now all c.union-all.result) (sym (map_more f rs i none c.loop-run-test.true))
     (group_more (map f (take i rs)) (f (get_or rs i none)) c.args.row.now all c.loop-run.all c.pass.new.row c.union-all.result c.loop-run.invariant
-    (subst (λ item. Stepped item c.args.row.now all c.pass.new.row) (c.of_one.ensures ∙ ap (λ run. range FirstOn true run run) c.codes_of.ensures) c.pass.ensures)
+    (subst (λ item. Stepped item c.args.row.now all c.pass.new.row) (c.of_one.ensures ∙ ap (λ run. range FirstOn true run run) c.run_codes.ensures) c.pass.ensures)
     c.union-all.ensures)
 
 pub returns : goal.returns

@@ -1,38 +1,45 @@
--- The least lengths of stored parts.
-use Rattle.std.proofs.Common.{◌≡◌, ℕ, zero, suc, ◌+◌, ◌-◌, ◌<◌, min, Bool, true, List, [], ◌∷◌, map, length, get_or, take, drop, sym, refl, ap, ◌∙◌, subst, suc-le-suc, arith}
+-- The lengths of stored runs, and where runs and parts lie.
+use Rattle.std.proofs.Common.{◌≡◌, ℕ, zero, suc, ◌<◌, min, max, true, List, [], ◌∷◌, map, length, get_or, take, drop, unwrap_or, sym, refl, ap, ◌∙◌, ap₂, suc-le-suc, arith}
+use Rattle.std.specs.List.{fold, reduce}
 use Rattle.std.proofs.lemmas.Bool.{and_parts, and_from}
-use Rattle.kinds.specs.Fragments.{shortest, least}
-use Rattle.kinds.specs.declared.pattern.Direction.{Direction}
-use Rattle.engine.specs.Stored.{run_codes, run_within, all_runs_within, part_within, all_parts_within, item_of}
-use Rattle.engine.specs.declared.part.Part.{Part}
-use Rattle.engine.specs.declared.part.Part.TheVariants as part
+use Rattle.kinds.specs.Fragments.{shortest, longest}
+use Rattle.engine.specs.Stored.{run_codes, run_within, all_runs_within, part_within, all_parts_within}
 use Rattle.engine.specs.declared.part.PlacedPart.{PlacedPart}
 use Rattle.engine.specs.declared.run.Run.{Run}
-use Rattle.engine.proofs.Growth.{runs_within_drop, runs_within_take}
 use Rattle.engine.proofs.Runs.{run_length}
 
--- the least of a number and the lengths of runs
-abbrev pub least_len : ℕ → List Run → ℕ
-least_len n [] = n
-least_len n (r ∷ rs) = least_len (min n r.len) rs
+-- how long a run says that it is
+abbrev pub len_of : Run → ℕ
+len_of r = r.len
 
--- the least of three numbers, in either order
-min_assoc : (a b c : ℕ) → min (min a b) c ≡ min a (min b c)
-min_assoc a b c = omega arith
+-- the least of two numbers and of more
+least_of_more : (a b : ℕ) (ns : List ℕ) → fold min (min a b) ns ≡ min a (fold min b ns)
+least_of_more a b [] = refl
+least_of_more a b (n ∷ ns) = let assoc : min (min a b) n ≡ min a (min b n) = omega arith in ap (λ m. fold min m ns) assoc ∙ least_of_more a (min b n) ns
 
--- the least of two numbers and of lengths
-least_len_min : (a b : ℕ) (rs : List Run) → least_len (min a b) rs ≡ min a (least_len b rs)
-least_len_min a b [] = refl
-least_len_min a b (r ∷ rs) = ap (λ n. least_len n rs) (min_assoc a b r.len) ∙ least_len_min a (min b r.len) rs
+module _ (codes : List ℕ) where
+  -- the shortest of some runs, by their lengths
+  pub shortest_is : (rs : List Run) → all_runs_within codes rs ≡ true → unwrap_or (reduce min (map len_of rs)) 0 ≡ shortest (map (run_codes codes) rs)
+  shortest_is [] h = refl
+  shortest_is (r ∷ []) h = sym (run_length codes r (and_parts _ _ h).0)
+  shortest_is (r ∷ s ∷ rs) h =
+      let parts = and_parts (run_within codes r) (all_runs_within codes (s ∷ rs)) h in
+      least_of_more r.len s.len (map len_of rs) ∙ ap₂ min (sym (run_length codes r parts.0)) (shortest_is (s ∷ rs) parts.1)
 
--- the shortest of some runs, by their lengths
-pub shortest_is : (codes : List ℕ) (r : Run) (rs : List Run) → all_runs_within codes (r ∷ rs) ≡ true → shortest (map (run_codes codes) (r ∷ rs)) ≡ least_len r.len rs
-shortest_is codes r [] h = run_length codes r (and_parts _ _ h).0
-shortest_is codes r (s ∷ rs) h =
-    let parts = and_parts (run_within codes r) (all_runs_within codes (s ∷ rs)) h in
-    ap (λ n. min n (shortest (map (run_codes codes) (s ∷ rs)))) (run_length codes r parts.0)
-    ∙ ap (min r.len) (shortest_is codes s rs parts.1)
-    ∙ sym (least_len_min r.len s.len rs)
+  -- the greatest of a number and of the lengths of runs
+  longest_from : (n : ℕ) (rs : List Run) → all_runs_within codes rs ≡ true → fold max n (map len_of rs) ≡ max n (longest (map (run_codes codes) rs))
+  longest_from n [] h = omega arith
+  longest_from n (r ∷ rs) h =
+      let parts = and_parts (run_within codes r) (all_runs_within codes rs) h in
+      let long = run_length codes r parts.0 in
+      longest_from (max n r.len) rs parts.1 ∙ omega arith
+
+  -- the longest of some runs, by their lengths
+  pub longest_is : (rs : List Run) → all_runs_within codes rs ≡ true → unwrap_or (reduce max (map len_of rs)) 0 ≡ longest (map (run_codes codes) rs)
+  longest_is [] h = refl
+  longest_is (r ∷ rs) h =
+      let parts = and_parts (run_within codes r) (all_runs_within codes rs) h in
+      longest_from r.len rs parts.1 ∙ ap (λ n. max n (longest (map (run_codes codes) rs))) (sym (run_length codes r parts.0))
 
 -- one of runs within the codes lies within them
 pub run_at_within : (codes : List ℕ) (rs : List Run) (i : ℕ) (d : Run) → all_runs_within codes rs ≡ true → i < length rs → run_within codes (get_or rs i d) ≡ true
@@ -59,26 +66,3 @@ parts_take_within codes runs (suc n) [] h = h
 parts_take_within codes runs (suc n) (p ∷ ps) h =
     let within = and_parts (part_within codes runs p.part) (all_parts_within codes runs ps) h in
     and_from (part_within codes runs p.part) (all_parts_within codes runs (take n ps)) within.0 (parts_take_within codes runs n ps within.1)
-
--- the least length of a part, by its shape
-module _ (codes : List ℕ) (runs : List Run) (p : Part) where
-  -- a group's, from the shortest of a slice of the runs
-  pub least_group : (first count : ℕ) → p ≡ part.Group first count → part_within codes runs p ≡ true → all_runs_within codes runs ≡ true
-      → (slice : List Run) (n : ℕ) → slice ≡ runs
-      → (all_runs_within codes (take (first + count - first) (drop first slice)) ≡ true → n ≡ shortest (map (run_codes codes) (take (first + count - first) (drop first slice))))
-      → n ≡ least (item_of codes runs p)
-  least_group first count is h within slice n same by =
-      let whole : first + count - first ≡ count = omega arith in
-      let some : take (first + count - first) (drop first slice) ≡ take count (drop first runs) = ap (λ k. take k (drop first slice)) whole ∙ ap (λ rs. take count (drop first rs)) same in
-      by (subst (λ rs. all_runs_within codes rs ≡ true) (sym some) (runs_within_take codes count (drop first runs) (runs_within_drop codes first runs within)))
-      ∙ ap (λ rs. shortest (map (run_codes codes) rs)) some
-      ∙ sym (ap (λ q. least (item_of codes runs q)) is)
-
-  -- that of a run that is to be different
-  pub least_other : (r : Run) → p ≡ part.Other r → part_within codes runs p ≡ true → r.len ≡ least (item_of codes runs p)
-  least_other r is h = sym (ap (λ q. least (item_of codes runs q)) is ∙ run_length codes r (subst (λ q. part_within codes runs q ≡ true) is h))
-
-  -- a range's, which is that of its first run
-  pub least_range : (d : Direction) (inside : Bool) (low high : Run) → p ≡ part.Range d inside low high → part_within codes runs p ≡ true → low.len ≡ least (item_of codes runs p)
-  least_range d inside low high is h =
-      sym (ap (λ q. least (item_of codes runs q)) is ∙ run_length codes low (and_parts _ _ (subst (λ q. part_within codes runs q ≡ true) is h)).0)

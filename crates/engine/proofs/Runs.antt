@@ -1,17 +1,15 @@
 -- What holds of stored runs: where they lie, how long they are, and how two of them compare.
-use Rattle.std.proofs.Common.{◌≡◌, ℕ, zero, suc, ◌+◌, ◌<◌, max, Bool, true, not, ◌&&◌, eqb, ltb, List, [], ◌∷◌, map, reverse, length, get_or, take, drop, sym, refl, ap, ◌∙◌, ap₂, arith, length-drop, length-take}
+use Rattle.std.proofs.Common.{◌≡◌, ℕ, ◌+◌, ◌<◌, Bool, true, not, ◌&&◌, eqb, ltb, List, ◌∷◌, reverse, length, get_or, drop, sym, refl, ap, ◌∙◌, ap₂, arith, length-drop, length-take}
 use Rattle.std.proofs.lemmas.List.{drop_more, get_or-reverse, length-reverse, reverse-reverse}
-use Rattle.std.proofs.lemmas.Bool.{and_parts, leb-true}
+use Rattle.std.proofs.lemmas.Bool.{leb-true}
 use Rattle.std.proofs.lemmas.Bool.Decides.{same_from_decides, Decides-like, nat_tests}
-use Rattle.kinds.specs.Fragments.{longest, before}
+use Rattle.kinds.specs.Fragments.{before}
 use Rattle.kinds.specs.Patterns.{compared, same, up_to}
 use Rattle.kinds.specs.declared.pattern.Direction.{Direction}
 use Rattle.kinds.specs.declared.pattern.Direction.TheVariants.{FirstOn, LastOn}
 use Rattle.kinds.proofs.Decisions.{same_decides}
-use Rattle.engine.specs.Stored.{run_codes, run_within, all_runs_within, part_within, all_parts_within}
-use Rattle.engine.specs.Tallies.{longest_run}
+use Rattle.engine.specs.Stored.{run_codes, run_within}
 use Rattle.engine.specs.Reaching.{position}
-use Rattle.engine.specs.declared.part.PlacedPart.{PlacedPart}
 use Rattle.engine.specs.declared.run.Run.{Run}
 
 -- Where runs and parts lie.
@@ -19,21 +17,6 @@ use Rattle.engine.specs.declared.run.Run.{Run}
 -- a run that lies within the codes is as long as it says
 pub run_length : (codes : List ℕ) (r : Run) → run_within codes r ≡ true → length (run_codes codes r) ≡ r.len
 run_length codes r h = let fits = leb-true (r.start + r.len) (length codes) h in simp (length-take, length-drop) (omega arith)
-
--- the longest of the first runs is as long as they say
-pub longest_length : (codes : List ℕ) (n : ℕ) (rs : List Run) → all_runs_within codes rs ≡ true → longest (map (run_codes codes) (take n rs)) ≡ longest_run (take n rs)
-longest_length codes zero rs h = refl
-longest_length codes (suc n) [] h = refl
-longest_length codes (suc n) (r ∷ rs) h =
-    let parts = and_parts (run_within codes r) (all_runs_within codes rs) h in
-    ap₂ max (run_length codes r parts.0) (longest_length codes n rs parts.1)
-
--- a part of a list of parts that lie within lies within
-pub part_within_at : (codes : List ℕ) (runs : List Run) (ps : List PlacedPart) (i : ℕ) (d : PlacedPart) → all_parts_within codes runs ps ≡ true → i < length ps → part_within codes runs (get_or ps i d).part ≡ true
-part_within_at codes runs [] i d h l = absurd (omega arith)
-part_within_at codes runs (p ∷ ps) zero d h l = (and_parts (part_within codes runs p.part) (all_parts_within codes runs ps) h).0
-part_within_at codes runs (p ∷ ps) (suc i) d h l =
-    part_within_at codes runs ps i d (and_parts (part_within codes runs p.part) (all_parts_within codes runs ps) h).1 (omega arith)
 
 -- How two runs compare.
 

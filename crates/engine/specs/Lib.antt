@@ -3,6 +3,7 @@ pub mod Compiled
 pub mod Compiling
 pub mod Contexts
 pub mod Examples
+pub mod Extents
 pub mod Faults
 pub mod Finding
 pub mod Limits

@@ -1,16 +1,10 @@
 -- What is kept of a pattern's items while its fragments are counted.
-use Rattle.std.specs.Prelude.{ℕ, ◌+◌, ◌-◌, ◌^◌, min, max, Bool, false, cond, ◌||◌, List, [], ◌∷◌, Some, None, Option, nat_le, nat_lt}
+use Rattle.std.specs.Prelude.{ℕ, ◌+◌, ◌-◌, ◌^◌, min, Bool, false, cond, ◌||◌, List, [], ◌∷◌, Some, None, Option, nat_le, nat_lt}
 use Rattle.std.specs.Option.{option_or, unwrap_or}
 use Rattle.kinds.specs.Fragments.{span, is_gap, endless, wrong, least_with, is_literal}
 use Rattle.kinds.specs.Grammar.{Placed}
 use Rattle.engine.specs.declared.limits.Stretch.{Stretch}
 use Rattle.engine.specs.declared.limits.Tally.{Tally}
-use Rattle.engine.specs.declared.run.Run.{Run}
-
--- the length of the longest run
-abbrev pub longest_run : List Run → ℕ
-longest_run [] = 0
-longest_run (r ∷ rs) = max r.len (longest_run rs)
 
 -- no items
 abbrev pub empty : Stretch

@@ -22,37 +22,6 @@ fn sum(a: u64, b: u64) -> Result<u64, AllocError>
     a.checked_add(b).ok_or(AllocError)
 }
 
-// The length of the shortest run, 0 where there is none.
-fn shortest(runs: &[Run]) -> usize
-    ensures { (codes : List ℕ) → all_runs_within codes runs.now ≡ true → result ≡ shortest_of (map (run_codes codes) runs.now) }
-{
-    if runs.is_empty() {
-        return 0;
-    }
-    let mut least = runs[0].len;
-    for run in &runs[1..] {
-        least = least.min(run.len);
-    }
-    least
-}
-
-// The least number of elements that a part takes.
-fn least(pattern: &Pattern, part: Part) -> usize
-    requires { HasPart pattern.now part }
-    ensures { result ≡ least_of (item_in pattern.now part) }
-{
-    match part {
-        Part::Literal(_) | Part::Any => 1,
-        Part::Group { first, count } => {
-            let runs = pattern.runs.as_slice();
-            shortest(&runs[first..first + count])
-        }
-        Part::Range { low, .. } => low.len,
-        Part::Other(run) => run.len,
-        Part::Gap(gap) => usize::from(gap.least),
-    }
-}
-
 // The least number of elements that parts take.
 fn lead(pattern: &Pattern, parts: &[PlacedPart]) -> Result<u64, AllocError>
     requires { HasParts pattern.now parts.now }
@@ -60,7 +29,7 @@ fn lead(pattern: &Pattern, parts: &[PlacedPart]) -> Result<u64, AllocError>
 {
     let mut total = 0;
     for placed in parts {
-        total = sum(total, least(pattern, placed.part) as u64)?;
+        total = sum(total, pattern.extent(placed.part).least as u64)?;
     }
     Ok(total)
 }

@@ -1,9 +1,30 @@
-// What a pattern contains, by its runs.
-ghost use Rattle.std.specs.Prelude.{◌≡◌, ◌+◌, ◌≤◌, length, take, drop};
-ghost use Rattle.engine.specs.Parts.{run_in, HasRun, HasRuns};
+// What a pattern contains, by its runs and parts.
+ghost use Rattle.std.specs.Prelude.{◌≡◌, ℕ, ◌+◌, ◌≤◌, true, List, map, length, take, drop};
+ghost use Rattle.engine.specs.Extents.{extent};
+ghost use Rattle.engine.specs.Parts.{run_in, item_in, HasRun, HasRuns, HasPart};
+ghost use Rattle.engine.specs.Stored.{run_codes, all_runs_within};
+ghost use Rattle.kinds.specs.Patterns.{group};
 
+use crate::part::Part;
 use crate::pattern::Pattern;
 use crate::run::Run;
+
+// How many elements a part takes: the least number, and the one that it spans, which is the greatest, or 0 for a gap
+// without upper end.
+#[derive(Clone, Copy)]
+pub(crate) struct Extent {
+    pub(crate) least: usize,
+    pub(crate) span: usize,
+}
+
+// The extent of one of some runs, 0 where there is none.
+fn extent_of(runs: &[Run]) -> Extent
+    ensures { (codes : List ℕ) → all_runs_within codes runs.now ≡ true → result ≡ extent (group (map (run_codes codes) runs.now)) }
+{
+    let least = runs.iter().map(|run| run.len).min().unwrap_or(0);
+    let span = runs.iter().map(|run| run.len).max().unwrap_or(0);
+    Extent { least, span }
+}
 
 impl Pattern {
     // The codes of a run.
@@ -21,5 +42,24 @@ impl Pattern {
         ensures within { HasRuns self.now result.now }
     {
         &self.runs[first..first + count]
+    }
+
+    // How many elements a part takes.
+    pub(crate) fn extent(&self, part: Part) -> Extent
+        requires { HasPart self.now part }
+        ensures { result ≡ extent (item_in self.now part) }
+    {
+        match part {
+            Part::Literal(_) | Part::Any => Extent { least: 1, span: 1 },
+            Part::Group { first, count } => extent_of(self.runs_of(first, count)),
+            Part::Range { low: run, .. } | Part::Other(run) => Extent {
+                least: run.len,
+                span: run.len,
+            },
+            Part::Gap(gap) => Extent {
+                least: usize::from(gap.least),
+                span: gap.most.map_or(0, usize::from),
+            },
+        }
     }
 }

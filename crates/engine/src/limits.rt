@@ -3,7 +3,7 @@ ghost use Rattle.std.specs.Prelude.{◌≡◌, ◌-◌, ◌^◌, ◌<◌, true, 
 ghost use Rattle.engine.specs.Limits.{refusal};
 ghost use Rattle.engine.specs.Reading.{held};
 ghost use Rattle.engine.specs.Parts.{item_in, placed_in, HasPart};
-ghost use Rattle.engine.specs.Tallies.{longest_run, single, joined, initial, smallest_with, closed, with_gap, with_thing, with_item, tallied};
+ghost use Rattle.engine.specs.Tallies.{single, joined, initial, smallest_with, closed, with_gap, with_thing, with_item, tallied};
 ghost use Rattle.kinds.specs.Fragments.{span as spanned, fragments, before, wrong};
 
 use crate::cause::Cause;
@@ -60,34 +60,6 @@ fn comes_before(direction: Direction, low: &[u16], high: &[u16]) -> bool
     false
 }
 
-// The length of the longest run.
-fn longest(runs: &[Run]) -> usize
-    ensures { result ≡ longest_run runs.now }
-{
-    let mut most: usize = 0;
-    for run in runs {
-        most = most.max(run.len);
-    }
-    most
-}
-
-// How many elements an item spans.
-fn span(pattern: &Pattern, part: Part) -> usize
-    requires { HasPart pattern.now part }
-    ensures { result ≡ spanned (item_in pattern.now part) }
-{
-    match part {
-        Part::Literal(_) | Part::Any => 1,
-        Part::Group { first, count } => longest(&pattern.runs.as_slice()[first..first + count]),
-        Part::Range { low, .. } => low.len,
-        Part::Other(run) => run.len,
-        Part::Gap(gap) => match gap.most {
-            Some(most) => usize::from(most),
-            None => 0,
-        },
-    }
-}
-
 // Whether an item is beyond a limit by itself.
 fn is_wrong(pattern: &Pattern, part: Part) -> bool
     requires { HasPart pattern.now part }
@@ -137,7 +109,7 @@ impl Stretch {
     {
         Stretch {
             start: Some(part.place),
-            span: span(pattern, part.part),
+            span: pattern.extent(part.part).span,
             literal: matches!(part.part, Part::Literal(_)),
             endless: matches!(part.part, Part::Gap(Gap { most: None, .. })),
         }

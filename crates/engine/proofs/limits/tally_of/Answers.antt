@@ -5,7 +5,7 @@ use Rattle.engine.specs.Tallies.{initial, closed, tallied}
 use Rattle.engine.specs.declared.limits.Tally.{Tally}
 use Rattle.engine.specs.declared.part.PlacedPart.{PlacedPart}
 use Rattle.engine.specs.declared.part.Part.TheVariants.{Literal}
-use Rattle.engine.proofs.Runs.{part_within_at}
+use Rattle.engine.proofs.Lengths.{part_at_within}
 use Rattle.engine.proofs.Tallies.{with_item_ended}
 use Rattle.engine.proofs.limits.tally_of.Goals as goal
 
@@ -21,7 +21,7 @@ with_item-tally-requires c =
     let within = subst (λ ps. all_parts_within (vec_items p.codes) (vec_items p.runs) ps ≡ true) (sym c.as_slice-part-items.ensures.value) p.parts_within in
     record {
       ended = omega (arith, c.loop-part.invariant.1, c.as_slice-part-items.ensures.len, p.parts.ok.1, p.parts.small);
-      inside = part_within_at (vec_items p.codes) (vec_items p.runs) parts c.loop-part.part-index _ within c.loop-part-test.true;
+      inside = part_at_within (vec_items p.codes) (vec_items p.runs) parts c.loop-part.part-index _ within c.loop-part-test.true;
     }
 
 pub loop-part-preserved : goal.loop-part-preserved

@@ -1,0 +1,8 @@
+-- How many elements an item takes, as a pattern gives it.
+use Rattle.kinds.specs.Fragments.{least, span}
+use Rattle.kinds.specs.Patterns.{Item}
+use Rattle.engine.specs.declared.contents.Extent.{Extent}
+
+-- the least number of elements that an item takes, and how many it spans
+abbrev pub extent : Item → Extent
+extent i = record { least = least i; span = span i }

@@ -1,8 +1,12 @@
 -- What holds of stored runs: where they lie, how long they are, and how two of them compare.
-use Rattle.std.proofs.Common.{◌≡◌, ℕ, ◌+◌, ◌<◌, Bool, true, not, ◌&&◌, eqb, ltb, List, ◌∷◌, reverse, length, get_or, drop, sym, refl, ap, ◌∙◌, ap₂, arith, length-drop, length-take}
-use Rattle.std.proofs.lemmas.List.{drop_more, get_or-reverse, length-reverse, reverse-reverse}
+use Rattle.std.proofs.Common.{◌≡◌, ℕ, ◌+◌, ◌<◌, Bool, true, not, ◌&&◌, eqb, List, reverse, length, get_or, sym, refl, ap, ◌∙◌, arith, length-drop, length-take}
+use Rattle.std.proofs.lemmas.List.{get_or-reverse, length-reverse, reverse-reverse}
 use Rattle.std.proofs.lemmas.Bool.{leb-true}
 use Rattle.std.proofs.lemmas.Bool.Decides.{same_from_decides, Decides-like, nat_tests}
+use Rattle.std.proofs.lemmas.Cmp.{same_from_slice_cmp}
+use Rattle.std.specs.Cmp.Lexicographic.{slice_cmp}
+use Rattle.std.specs.Ordering.{nat_cmp, is_lt}
+use Rattle.std.specs.declared.cmp.Ordering.{Ordering}
 use Rattle.kinds.specs.Fragments.{before}
 use Rattle.kinds.specs.Patterns.{compared, same, up_to}
 use Rattle.kinds.specs.declared.pattern.Direction.{Direction}
@@ -54,33 +58,6 @@ before_strictly d xs ys h =
     ap (λ b. up_to (compared d xs) (compared d ys) && not b) (same_compared d xs ys)
     ∙ (let e : eqb (length xs) (length ys) ≡ true = grind (arith, nat_tests) in ap (λ b. (b && up_to (compared d xs) (compared d ys)) && not (same xs ys)) (sym e))
 
--- equal first codes leave the order to the rest
-strictly_equal : (x y : ℕ) (xs ys : List ℕ) → x ≡ y → strictly (x ∷ xs) (y ∷ ys) ≡ strictly xs ys
-strictly_equal x y xs ys h = grind (arith, nat_tests)
-
--- first codes that differ decide the order
-strictly_apart : (x y : ℕ) (xs ys : List ℕ) → (x ≡ y → ⊥) → strictly (x ∷ xs) (y ∷ ys) ≡ ltb x y
-strictly_apart x y xs ys h = grind (arith, nat_tests)
-
--- a comparison of two lists of one length, after i codes
-module _ (d : Direction) (xs ys : List ℕ) (level : length xs ≡ length ys) (i : ℕ) (inside : i < length xs) where
-  -- the codes of this turn stand in front of the rest
-  opened : strictly (drop i (compared d xs)) (drop i (compared d ys))
-      ≡ strictly (get_or xs (position d (length xs) i) 0 ∷ drop (i + 1) (compared d xs)) (get_or ys (position d (length xs) i) 0 ∷ drop (i + 1) (compared d ys))
-  opened =
-      let n = length_compared d xs in
-      let m = length_compared d ys in
-      let at : get_or (compared d ys) i 0 ≡ get_or ys (position d (length xs) i) 0 = compared_at d ys i (omega arith) ∙ ap (λ k. get_or ys (position d k i) 0) (sym level) in
-      ap₂ strictly
-      (drop_more (compared d xs) i 0 (omega arith) ∙ ap (λ c. c ∷ drop (i + 1) (compared d xs)) (compared_at d xs i inside))
-      (drop_more (compared d ys) i 0 (omega arith) ∙ ap (λ c. c ∷ drop (i + 1) (compared d ys)) at)
-
-  -- equal codes leave the order to what is left
-  pub order_goes_on : get_or xs (position d (length xs) i) 0 ≡ get_or ys (position d (length xs) i) 0
-      → strictly (drop i (compared d xs)) (drop i (compared d ys)) ≡ strictly (drop (i + 1) (compared d xs)) (drop (i + 1) (compared d ys))
-  order_goes_on h = opened ∙ strictly_equal _ _ (drop (i + 1) (compared d xs)) (drop (i + 1) (compared d ys)) h
-
-  -- codes that differ decide it
-  pub order_decided : (get_or xs (position d (length xs) i) 0 ≡ get_or ys (position d (length xs) i) 0 → ⊥)
-      → strictly (drop i (compared d xs)) (drop i (compared d ys)) ≡ ltb (get_or xs (position d (length xs) i) 0) (get_or ys (position d (length xs) i) 0)
-  order_decided h = opened ∙ strictly_apart _ _ (drop (i + 1) (compared d xs)) (drop (i + 1) (compared d ys)) h
+-- a comparison of two lists says which comes before
+pub strictly_is : (xs ys : List ℕ) (o : Ordering) → o ≡ slice_cmp nat_cmp xs ys → is_lt o ≡ strictly xs ys
+strictly_is = same_from_slice_cmp nat_cmp is_lt strictly refl (λ _ _. refl) (λ _ _. refl) (λ x y xs ys o h. grind (arith, nat_tests))

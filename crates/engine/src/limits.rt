@@ -44,41 +44,34 @@ struct Tally {
 fn comes_before(direction: Direction, low: &[u16], high: &[u16]) -> bool
     ensures { result ≡ before direction low.now high.now }
 {
-    let len = low.len();
-    if len != high.len() {
-        return false;
-    }
-    for i in 0..len {
-        let at = match direction {
-            Direction::FirstOn => i,
-            Direction::LastOn => len - 1 - i,
-        };
-        if low[at] != high[at] {
-            return low[at] < high[at];
-        }
-    }
-    false
+    let order = match direction {
+        Direction::FirstOn => low.iter().cmp(high.iter()),
+        Direction::LastOn => low.iter().rev().cmp(high.iter().rev()),
+    };
+    low.len() == high.len() && order.is_lt()
 }
 
-// Whether an item is beyond a limit by itself.
-fn is_wrong(pattern: &Pattern, part: Part) -> bool
-    requires { HasPart pattern.now part }
-    ensures { result ≡ wrong (item_in pattern.now part) }
-{
-    match part {
-        Part::Range {
-            direction,
-            low,
-            high,
-            ..
-        } => !comes_before(direction, pattern.run_codes(low), pattern.run_codes(high)),
-        Part::Gap(
-            Gap {
-                least,
-                most: Some(most),
-            },
-        ) => most < least,
-        _ => false,
+impl Pattern {
+    // Whether an item is beyond a limit by itself.
+    fn is_wrong(&self, part: Part) -> bool
+        requires { HasPart self.now part }
+        ensures { result ≡ wrong (item_in self.now part) }
+    {
+        match part {
+            Part::Range {
+                direction,
+                low,
+                high,
+                ..
+            } => !comes_before(direction, self.run_codes(low), self.run_codes(high)),
+            Part::Gap(
+                Gap {
+                    least,
+                    most: Some(most),
+                },
+            ) => most < least,
+            _ => false,
+        }
     }
 }
 
@@ -195,7 +188,7 @@ impl Tally {
         ensures { result ≡ with_item self (placed_in pattern.now part) }
     {
         let judged = Tally {
-            limit: smallest(self.limit, is_wrong(pattern, part.part), part.place),
+            limit: smallest(self.limit, pattern.is_wrong(part.part), part.place),
             ..self
         };
         let item = Stretch::of(pattern, part);

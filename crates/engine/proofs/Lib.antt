@@ -22,6 +22,7 @@ pub mod Searching
 pub mod Shifting
 pub mod Shows
 pub mod Sides
+pub mod Smallest
 pub mod Sounds
 pub mod Steps
 pub mod Tallies

@@ -14,6 +14,7 @@ pub mod Scanning
 pub mod Searched
 pub mod Sequences
 pub mod Sides
+pub mod Smaller
 pub mod Stored
 pub mod Tallies
 pub mod Tokens

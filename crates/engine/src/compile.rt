@@ -1,17 +1,16 @@
 // Compiles a pattern: its fragments, their anchors, and the numbers of their search.
-ghost use Rattle.std.specs.Prelude.{◌≡◌, ℕ, ◌+◌, ◌-◌, ◌<◌, ◌≤◌, true, List, map, length, take, drop, if◌then◌else◌, IfOk};
+ghost use Rattle.std.specs.Prelude.{◌≡◌, ℕ, ◌+◌, ◌-◌, ◌<◌, ◌≤◌, List, length, take, drop, if◌then◌else◌, IfOk};
 ghost use Rattle.engine.specs.Compiled.{literal_codes, Holds, Hold};
 ghost use Rattle.engine.specs.Compiling.{part_items, replaces, Anchors, Shifts, Cuts};
 ghost use Rattle.engine.specs.Reading.{held};
-ghost use Rattle.engine.specs.Parts.{item_in, items_in, HasPart, HasParts};
-ghost use Rattle.engine.specs.Stored.{items as items_of, run_codes, all_runs_within};
+ghost use Rattle.engine.specs.Parts.{items_in, HasParts};
+ghost use Rattle.engine.specs.Stored.{items as items_of};
 ghost use Rattle.engine.specs.declared.run.Run.{Run as StoredRun};
-ghost use Rattle.kinds.specs.Fragments.{shortest as shortest_of, least as least_of, sum_least, fragments as fragments_from};
+ghost use Rattle.kinds.specs.Fragments.{sum_least, fragments as fragments_from};
 
 use crate::fragment::{Fragment, INDICES};
 use crate::part::{Part, PlacedPart};
 use crate::pattern::Pattern;
-use crate::run::Run;
 use kinds::pattern::Reference;
 use std::alloc::{AllocError, Global};
 

@@ -3,7 +3,7 @@ ghost use Rattle.std.specs.Prelude.{◌≡◌, ℕ, ◌+◌, ◌<◌, ◌≤◌,
 ghost use Rattle.engine.specs.Codes.{codes_of};
 ghost use Rattle.engine.specs.Compiled.{literal_codes};
 ghost use Rattle.engine.specs.Compiling.{part_items};
-ghost use Rattle.engine.specs.Finding.{smaller_of, Bounds, LeastThrough, Sides, Start};
+ghost use Rattle.engine.specs.Finding.{Bounds, LeastThrough, Sides, Start};
 ghost use Rattle.engine.specs.Reading.{held};
 ghost use Rattle.engine.specs.Searched.{Searched};
 ghost use Rattle.engine.specs.declared.run.Run.{Run};
@@ -20,6 +20,7 @@ use crate::part::{Part, PlacedPart};
 use crate::pattern::Pattern;
 use crate::reach::reach;
 use crate::scan::next_fit_up_to;
+use crate::smaller::smaller;
 use kinds::backward::Backward;
 use kinds::reading::Reading;
 use rows::Row;
@@ -104,17 +105,6 @@ fn end_through<R: Reading>(
     match behind.first_from(0) {
         Some(far) => Some(u64::from(base) + far as u64),
         None => None,
-    }
-}
-
-// The smaller of two ends, where there are both.
-fn smaller(a: Option<u64>, b: Option<u64>) -> Option<u64>
-    ensures { result ≡ smaller_of a b }
-{
-    match (a, b) {
-        (Some(a), Some(b)) => Some(a.min(b)),
-        (Some(a), None) => Some(a),
-        (None, b) => b,
     }
 }
 

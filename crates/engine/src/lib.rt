@@ -20,6 +20,7 @@ pub mod run;
 pub mod scan;
 pub mod search;
 pub mod sequence;
+mod smaller;
 mod step;
 mod store;
 pub mod text;

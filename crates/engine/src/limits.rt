@@ -1,15 +1,15 @@
 // Refuses patterns that are beyond the limits or have a fragment without a literal, and counts fragments.
-ghost use Rattle.std.specs.Prelude.{◌≡◌, ◌-◌, ◌^◌, ◌<◌, true, length};
+ghost use Rattle.std.specs.Prelude.{◌≡◌, ◌-◌, ◌^◌, ◌<◌, length};
 ghost use Rattle.engine.specs.Limits.{refusal};
 ghost use Rattle.engine.specs.Reading.{held};
 ghost use Rattle.engine.specs.Parts.{item_in, placed_in, HasPart};
-ghost use Rattle.engine.specs.Tallies.{single, joined, initial, smallest_with, closed, with_gap, with_thing, with_item, tallied};
-ghost use Rattle.kinds.specs.Fragments.{span as spanned, fragments, before, wrong};
+ghost use Rattle.engine.specs.Tallies.{single, joined, initial, closed, with_gap, with_thing, with_item, tallied};
+ghost use Rattle.kinds.specs.Fragments.{fragments, before, wrong};
 
 use crate::cause::Cause;
 use crate::part::{Part, PlacedPart};
 use crate::pattern::Pattern;
-use crate::run::Run;
+use crate::smaller::smaller;
 use crate::token::Gap;
 use kinds::pattern::Direction;
 
@@ -75,17 +75,6 @@ impl Pattern {
     }
 }
 
-// The smallest place beyond a limit: one that was found before, or this one where it is beyond.
-fn smallest(found: Option<usize>, beyond: bool, place: usize) -> Option<usize>
-    ensures { result ≡ smallest_with found beyond place }
-{
-    match found {
-        _ if !beyond => found,
-        Some(earlier) => Some(earlier.min(place)),
-        None => Some(place),
-    }
-}
-
 impl Stretch {
     // No items.
     const EMPTY: Stretch = Stretch {
@@ -138,17 +127,12 @@ impl Tally {
     {
         let start = self.body.start.unwrap_or(0);
         let beyond = self.ended >= MOST_FRAGMENTS || self.body.span > LONGEST_SPAN;
-        let bare = if self.body.literal {
-            self.bare
-        } else {
-            self.bare.or(Some(start))
-        };
         Tally {
             ended: self.ended + 1,
             body: Stretch::EMPTY,
             row: Stretch::EMPTY,
-            limit: smallest(self.limit, beyond, start),
-            bare,
+            limit: smaller(self.limit, beyond.then_some(start)),
+            bare: self.bare.or((!self.body.literal).then_some(start)),
         }
     }
 
@@ -188,7 +172,10 @@ impl Tally {
         ensures { result ≡ with_item self (placed_in pattern.now part) }
     {
         let judged = Tally {
-            limit: smallest(self.limit, pattern.is_wrong(part.part), part.place),
+            limit: smaller(
+                self.limit,
+                pattern.is_wrong(part.part).then_some(part.place),
+            ),
             ..self
         };
         let item = Stretch::of(pattern, part);

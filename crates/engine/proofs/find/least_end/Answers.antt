@@ -7,6 +7,7 @@ use Rattle.engine.specs.Reading.{held}
 use Rattle.engine.specs.Stored.{placed_of}
 use Rattle.engine.proofs.Anchored.{codes_stored, sides_of}
 use Rattle.engine.proofs.Least.{bounds_of, best_begins, none_begins, best_ends, next_on, next_before, best_next}
+use Rattle.engine.proofs.Smallest.{smaller_ends}
 use Rattle.engine.proofs.find.least_end.Goals as goal
 
 pub returns-then-not-is_bounded : goal.returns-then-not-is_bounded
@@ -67,7 +68,7 @@ loop-fit-preserved g c r f s =
     best_next r (held pattern) (held mirror) fragment f s c.args.from c.args.until xs _ codes c.loop-fit.place c.loop-fit.last c.next_fit_up_to.result c.next_fit_up_to.ensures
     c.in-Some.fit c.in-Some.is c.loop-fit.best c.end_through.result c.smaller-best.result c.in_ok-place-2.place c.last_useful-last.result
     (λ y. c.end_through.ensures (anchor r (bodies f.body)) (sides_of r (held pattern) (held mirror) fragment f s) y)
-    c.smaller-best.ensures c.in_ok-place-2.ensures.1 c.last_useful-last.ensures (c.loop-fit.invariant r f s)
+    (c.smaller-best.ensures ∙ smaller_ends c.loop-fit.best c.end_through.result) c.in_ok-place-2.ensures.1 c.last_useful-last.ensures (c.loop-fit.invariant r f s)
 
 pub returns : goal.returns
 returns g c r f s =

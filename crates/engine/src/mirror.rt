@@ -1,5 +1,5 @@
 // Patterns in the order of a search from the back.
-ghost use Rattle.std.specs.Prelude.{◌≡◌, map};
+ghost use Rattle.std.specs.Prelude.{◌≡◌, ℕ, map};
 ghost use Rattle.engine.specs.Reading.{held};
 ghost use Rattle.engine.specs.Turned.{turned_part, turned_placed, turned_run};
 ghost use Rattle.kinds.specs.Fragments.{mirrored_placed};
@@ -10,16 +10,28 @@ use crate::pattern::Pattern;
 use crate::run::Run;
 use kinds::pattern::Direction;
 
-// Where a run stands once the codes, `total` of them, are reversed.
-fn turned_run(run: Run, total: usize) -> Run
-    ensures { result ≡ turned_run total run }
-{
-    Run {
-        start: total.saturating_sub(run.start).saturating_sub(run.len),
-        len: run.len,
+// What follows where the codes of a pattern are reversed.
+trait Turn: Copy {
+    ghost turned_in: { ℕ → Self → Self };
+
+    // What it becomes once the codes, `total` of them, are reversed.
+    fn turned(self, total: usize) -> Self
+        ensures { result ≡ turned_in total self };
+}
+
+// A run stands as far from the other end.
+impl Turn for Run {
+    ghost turned_in = { turned_run };
+
+    fn turned(self, total: usize) -> Run {
+        Run {
+            start: total.saturating_sub(self.start).saturating_sub(self.len),
+            len: self.len,
+        }
     }
 }
 
+// The other end to compare from.
 fn turned_direction(direction: Direction) -> Direction
     ensures { result ≡ turned direction }
 {
@@ -29,44 +41,46 @@ fn turned_direction(direction: Direction) -> Direction
     }
 }
 
-// A part once the codes are reversed: its runs are reversed, and compared from the other end.
-fn turned_part(part: Part, total: usize) -> Part
-    ensures { result ≡ turned_part total part }
-{
-    match part {
-        Part::Range {
-            direction,
-            inside,
-            low,
-            high,
-        } => Part::Range {
-            direction: turned_direction(direction),
-            inside,
-            low: turned_run(low, total),
-            high: turned_run(high, total),
-        },
-        Part::Other(run) => Part::Other(turned_run(run, total)),
-        Part::Literal(_) | Part::Any | Part::Group { .. } | Part::Gap(_) => part,
+// A part's runs are reversed, and compared from the other end.
+impl Turn for Part {
+    ghost turned_in = { turned_part };
+
+    fn turned(self, total: usize) -> Part {
+        match self {
+            Part::Range {
+                direction,
+                inside,
+                low,
+                high,
+            } => Part::Range {
+                direction: turned_direction(direction),
+                inside,
+                low: low.turned(total),
+                high: high.turned(total),
+            },
+            Part::Other(run) => Part::Other(run.turned(total)),
+            Part::Literal(_) | Part::Any | Part::Group { .. } | Part::Gap(_) => self,
+        }
     }
 }
 
-fn turn_runs(runs: &mut Vec<Run>, total: usize)
-    ensures { runs.new.items ≡ map (turned_run total) runs.old.items }
-{
-    for run in runs.iter_mut() {
-        *run = turned_run(*run, total);
+impl Turn for PlacedPart {
+    ghost turned_in = { turned_placed };
+
+    fn turned(self, total: usize) -> PlacedPart {
+        PlacedPart {
+            part: self.part.turned(total),
+            ..self
+        }
     }
 }
 
-fn turn_parts(parts: &mut Vec<PlacedPart>, total: usize)
-    ensures { parts.new.items ≡ map (turned_placed total) parts.old.items }
+// Turns each of a list.
+fn turn_all<T: Turn>(list: &mut Vec<T>, total: usize)
+    ensures { list.new.items ≡ map (T.turned_in total) list.old.items }
 {
-    for placed in parts.iter_mut() {
-        let PlacedPart { place, part } = *placed;
-        *placed = PlacedPart {
-            place,
-            part: turned_part(part, total),
-        };
+    for x in list.iter_mut() {
+        *x = x.turned(total);
     }
 }
 
@@ -81,8 +95,8 @@ pub fn mirrored(pattern: Pattern) -> Pattern
     } = pattern;
     let total = codes.len();
     codes.reverse();
-    turn_runs(&mut runs, total);
+    turn_all(&mut runs, total);
     parts.reverse();
-    turn_parts(&mut parts, total);
+    turn_all(&mut parts, total);
     Pattern { codes, runs, parts }
 }

@@ -1,21 +1,11 @@
-use Rattle.std.proofs.Common.{◌≡◌, ◌+◌, ◌-◌, true, take, drop, vec_items, sym, ap, ◌∙◌, subst}
+use Rattle.std.proofs.Common.{vec_items, sym, ap, ◌∙◌, subst}
 use lib.ListN.{length-map}
 use Rattle.kinds.specs.Patterns.{matches, other}
 use Rattle.engine.specs.Codes.{codes_of}
-use Rattle.engine.specs.Stored.{item_of, all_runs_within}
+use Rattle.engine.specs.Stored.{item_of}
 use Rattle.engine.specs.Reaching.{Stepped, range_item}
-use Rattle.engine.proofs.Growth.{runs_within_drop, runs_within_take}
 use Rattle.engine.proofs.Reaching.{alike, others}
 use Rattle.engine.proofs.reach.pass.Goals as goal
-
-pub pass_group-requires : goal.pass_group-requires
-pass_group-requires g c =
-    let codes = vec_items c.args.pattern.now.codes in
-    let runs = vec_items c.args.pattern.now.runs in
-    let first = c.in-Group.first in
-    let n = first + c.in-Group.count - first in
-    subst (λ rs. all_runs_within codes (take n (drop first rs)) ≡ true) (sym c.as_slice.ensures.value)
-    (runs_within_take codes n (drop first runs) (runs_within_drop codes first runs c.args.pattern.now.runs_within))
 
 pub returns-in-Literal : goal.returns-in-Literal
 returns-in-Literal g c =

@@ -41,7 +41,7 @@ lowest w v s fits is p =
         ap (bit w) (sym e) ∙ down (k - s) ∙ trailing_below 64 v (k - s) (omega arith)
 
 -- a word with no bit from s on
-pub no_bit : (w s b : ℕ) → w / 2 ^ s ≡ 0 → s ≤ b → bit w b ≡ false
+no_bit : (w s b : ℕ) → w / 2 ^ s ≡ 0 → s ≤ b → bit w b ≡ false
 no_bit w s b z h =
     let e : s + (b - s) ≡ b = omega arith in
     ap (bit w) (sym e) ∙ sym (bit_shr w s (b - s)) ∙ ap (λ n. bit n (b - s)) z ∙ bit_of_zero (b - s)

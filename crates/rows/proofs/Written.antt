@@ -1,5 +1,5 @@
 -- Words of a row written one after the other.
-use Rattle.std.proofs.Common.{◌≡◌, ℕ, ◌+◌, ◌-◌, ◌*◌, ◌/◌, ◌%◌, ◌<◌, ◌≤◌, min, max, Bool, false, ◌&&◌, ◌||◌, ltb, leb, ◌⊎◌, List, length, get_or, set, sym, refl, ap, ◌∙◌, ap₂, inl, inr, ⊎_elim, arith}
+use Rattle.std.proofs.Common.{◌≡◌, ℕ, ◌+◌, ◌-◌, ◌*◌, ◌/◌, ◌%◌, ◌<◌, ◌≤◌, min, max, Bool, false, ◌&&◌, ◌||◌, ltb, leb, ◌⊎◌, List, length, get_or, set, sym, ap, ◌∙◌, ap₂, inl, inr, ⊎_elim, arith}
 use lib.Bits.{bit_or}
 use Rattle.std.proofs.lemmas.List.{get_or-set_other}
 use Rattle.std.proofs.lemmas.Bool.{and_right, cases_lt, le-ltb, lt-ltb}
@@ -15,10 +15,6 @@ pub record Written (old : Row) (words : List ℕ) (low high : ℕ) (f : ℕ → 
   pub below : (k : ℕ) → k < low → get_or words k 0 ≡ get_or old.words k 0
   pub past : (k : ℕ) → high ≤ k → get_or words k 0 ≡ get_or old.words k 0
 
--- nothing is written yet
-pub written_none : (old : Row) (at : ℕ) (f : ℕ → Bool) → Written old old.words at at f
-written_none old at f = record { done = λ j a b. absurd (omega arith); below = λ k h. refl; past = λ k h. refl }
-
 -- one word more, at either end
 pub written_more : {old : Row} {words : List ℕ} {low high : ℕ} {f : ℕ → Bool} (i word : ℕ) {now_low now_high : ℕ} → Written old words low high f
     → i < length words → low ≤ i + 1 → i ≤ high → now_low ≡ min low i → now_high ≡ max high (i + 1)
@@ -31,7 +27,7 @@ written_more {words = words} {f = f} i word w inside a b el eh bits =
     }
 
 -- every word is written, and those from `high` on are as `f` says
-pub written_all : {old : Row} (row : Row) {low high : ℕ} {f : ℕ → Bool} → Written old row.words low high f → low ≤ 0
+written_all : {old : Row} (row : Row) {low high : ℕ} {f : ℕ → Bool} → Written old row.words low high f → low ≤ 0
     → ((j : ℕ) → j < 1024 → high ≤ j / 64 → member old j ≡ f j) → ((j : ℕ) → 1024 ≤ j → f j ≡ false)
     → (j : ℕ) → member row j ≡ f j
 written_all {old = old} row {high = high} {f = f} w first rest =

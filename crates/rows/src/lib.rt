@@ -101,6 +101,7 @@ impl Row {
     {
         let end = (self.used() + reach / 64 + 1).min(16);
         let mut done = 0;
+        // No `for`: the step grows from turn to turn, and a counted loop would join up to 1,023 times in place of 10.
         while done < reach {
             let step = (done + 1).min(reach - done);
             self.join_moved(end, step);
@@ -183,7 +184,8 @@ fn carried(low: u64, high: u64, bits: usize) -> u64
     high << bits | low >> 1 >> (63 - bits)
 }
 
-// A question about offsets.
+// A question about offsets. It is no closure: one is taken only under a `requires`, which no public call has here, and its
+// answers are told only as a relation.
 pub trait Question {
     ghost asked: { Self → ℕ → Bool };
 

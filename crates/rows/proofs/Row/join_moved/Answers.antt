@@ -1,11 +1,8 @@
 -- Each word takes on what is moved to it, from the last down.
 use Rattle.std.proofs.Common.{◌-◌, get_or, arith, rules}
 use lib.Bits.{bit_or}
-use Rattle.rows.proofs.Written.{joins, join_word, joined_all, written_more, written_none}
+use Rattle.rows.proofs.Written.{join_word, joined_all, written_more}
 use Rattle.rows.proofs.Row.join_moved.Goals as goal
-
-pub loop-i-init : goal.loop-i-init
-loop-i-init c = written_none c.args.self.now c.args.end (joins c.args.self.now c.args.end c.args.by)
 
 pub loop-i-preserved : goal.loop-i-preserved
 loop-i-preserved c =

@@ -1,11 +1,8 @@
 -- Each word is cut to the bits that the question is answered yes of, and a word that is 0 stays.
 use Rattle.std.proofs.Common.{get_or, rules}
-use Rattle.rows.proofs.Written.{chosen, kept_all, kept_more, written_none, zero_chosen}
+use Rattle.rows.proofs.Written.{kept_all, kept_more, zero_chosen}
 use Rattle.rows.proofs.Row.keep.Goals as goal
 use Rattle.rows.proofs.Row.keep.Goals.{then-word-ne0, else-word-ne0}
-
-pub loop-i-init : goal.loop-i-init
-loop-i-init g c = written_none c.args.self.now 0 (chosen (g.Q.Question.asked c.args.question.now) c.args.self.now)
 
 pub loop-i-preserved : goal.loop-i-preserved
 loop-i-preserved g c =

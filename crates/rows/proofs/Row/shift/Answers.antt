@@ -2,11 +2,8 @@
 use Rattle.std.proofs.Common.{◌-◌, sym, ap, ◌∙◌, ◌&&◌, arith, rules}
 use Rattle.std.proofs.lemmas.Bool.{lt-ltb}
 use Rattle.rows.specs.Rows.{moved}
-use Rattle.rows.proofs.Written.{shifts, shift_word, shifted_all, written_more, written_none}
+use Rattle.rows.proofs.Written.{shift_word, shifted_all, written_more}
 use Rattle.rows.proofs.Row.shift.Goals as goal
-
-pub loop-i-init : goal.loop-i-init
-loop-i-init c = written_none c.args.self.now c.min-end.result (shifts c.args.self.now c.args.by)
 
 pub loop-i-preserved : goal.loop-i-preserved
 loop-i-preserved c =

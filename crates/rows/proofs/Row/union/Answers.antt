@@ -1,11 +1,8 @@
 -- Each word is joined, from the first up.
 use Rattle.std.proofs.Common.{get_or, arith, rules}
 use lib.Bits.{bit_or}
-use Rattle.rows.proofs.Written.{joint, joint_word, joint_all, written_more, written_none}
+use Rattle.rows.proofs.Written.{joint_word, joint_all, written_more}
 use Rattle.rows.proofs.Row.union.Goals as goal
-
-pub loop-i-init : goal.loop-i-init
-loop-i-init c = written_none c.args.self 0 (joint c.args.self c.args.other)
 
 pub loop-i-preserved : goal.loop-i-preserved
 loop-i-preserved c =

@@ -6,7 +6,7 @@ use Rattle.std.proofs.lemmas.Bool.{both_ways, cases_lt, false≢true, true≢fal
 use Rattle.rows.specs.declared.Row.{Row}
 use Rattle.rows.specs.Rows.{bit, member, FirstFrom, NoneFrom}
 use Rattle.rows.proofs.Members.{member_bit, member_past}
-use Rattle.rows.proofs.Words.{bit_of_zero, bit_past, bit_shr, trailing_below, trailing_bit}
+use Rattle.rows.proofs.Words.{bit_of_zero, bit_past, bit_shr, trailing}
 
 -- b is the lowest bit from s on that is set in the word
 pub record Lowest (w s b : ℕ) : Type 0 where
@@ -30,7 +30,7 @@ lowest w v s fits is p =
     small = omega (arith, shr_le w s)
 
     here : bit w (s + t) ≡ true
-    here = down t ∙ trailing_bit 64 v p small
+    here = down t ∙ (trailing v p small).held
 
     beyond : 64 ≤ s + t → s + t < 64
     beyond h = absurd (both_ways (bit w (s + t)) (bit_past w (s + t) (lt_of_lt_of_le fits (pow_mono h))) here)
@@ -38,7 +38,7 @@ lowest w v s fits is p =
     below : (k : ℕ) → s ≤ k → k < s + t → bit w k ≡ false
     below k l h =
         let e : s + (k - s) ≡ k = omega arith in
-        ap (bit w) (sym e) ∙ down (k - s) ∙ trailing_below 64 v (k - s) (omega arith)
+        ap (bit w) (sym e) ∙ down (k - s) ∙ (trailing v p small).below (k - s) (omega arith)
 
 -- a word with no bit from s on
 no_bit : (w s b : ℕ) → w / 2 ^ s ≡ 0 → s ≤ b → bit w b ≡ false

@@ -5,7 +5,7 @@ use lib.Count.{count_leading_zeros, count_trailing_zeros}
 use Rattle.std.proofs.lemmas.Bool.{and_right, both_ways, cases_Bool, cases_lt, le-ltb, lt-ltb}
 use Rattle.std.proofs.lemmas.Bool.Decides.{nat_tests}
 use Rattle.rows.specs.Rows.{bit}
-use Rattle.rows.proofs.Words.{bit_of_and, bit_of_zero, bit_of_or, bit_shl_word, leading_above, trailing_below, trailing_bit}
+use Rattle.rows.proofs.Words.{bit_of_and, bit_of_zero, bit_of_or, bit_shl_word, leading_above, trailing}
 
 -- the bits of a number are the answers from a bit up to `top`
 abbrev pub Answers : (ℕ → Bool) → ℕ → ℕ → ℕ → ℕ → Type 0
@@ -40,16 +40,16 @@ answers_more f base top next on r p l t before is x bits k =
 -- a word that is not 0 has its lowest bit below the end of its bits
 pub lowest_below : (word : ℕ) → 0 < word → word < 2 ^ 64 → count_trailing_zeros 64 word < 64 - count_leading_zeros 64 word
 lowest_below word p fits =
-    ⊎_elim (λ h. h) (λ h. absurd (both_ways (bit word t) (leading_above word t fits h) (trailing_bit 64 word p fits))) (cases_lt t (64 - count_leading_zeros 64 word))
+    ⊎_elim (λ h. h) (λ h. absurd (both_ways (bit word t) (leading_above word t fits h) (trailing word p fits).held)) (cases_lt t (64 - count_leading_zeros 64 word))
   where
     t : ℕ
     t = count_trailing_zeros 64 word
 
 -- all answers, cut to the bits of the word
-pub answers_all : (f : ℕ → Bool) (base word on : ℕ) → word < 2 ^ 64
+pub answers_all : (f : ℕ → Bool) (base word on : ℕ) → 0 < word → word < 2 ^ 64
     → Answers f base (64 - count_leading_zeros 64 word) (count_trailing_zeros 64 word) on
     → (b : ℕ) → bit (bit_and ((on * 2 ^ count_trailing_zeros 64 word) % 2 ^ 64) word) b ≡ (bit word b && f (base + b))
-answers_all f base word on fits all b =
+answers_all f base word on p fits all b =
     bit_of_and ((on * 2 ^ least) % 2 ^ 64) word b ∙ ap (λ t. t && bit word b) (bit_shl_word on least b)
     ∙ ⊎_elim held (λ e. let left = and_right (ltb b 64 && (leb least b && bit on (b - least))) (bit word b) e in grind (arith, nat_tests)) (cases_Bool (bit word b))
   where
@@ -63,7 +63,7 @@ answers_all f base word on fits all b =
     Same = ((ltb b 64 && (leb least b && bit on (b - least))) && bit word b) ≡ (bit word b && f (base + b))
 
     low : bit word b ≡ true → least ≤ b
-    low e = ⊎_elim (λ h. absurd (both_ways (bit word b) (trailing_below 64 word b h) e)) (λ h. h) (cases_lt b least)
+    low e = ⊎_elim (λ h. absurd (both_ways (bit word b) ((trailing word p fits).below b h) e)) (λ h. h) (cases_lt b least)
 
     high : bit word b ≡ true → b < top
     high e = ⊎_elim (λ h. h) (λ h. absurd (both_ways (bit word b) (leading_above word b fits h) e)) (cases_lt b top)

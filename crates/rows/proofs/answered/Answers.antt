@@ -26,5 +26,5 @@ returns g c =
     let f = g.Q.Question.asked c.args.question.now in
     let low = c.loop-bit.invariant.0 in
     let e : c.loop-bit.bit ≡ count_trailing_zeros 64 word = omega arith in
-    answers_all f c.args.base word c.loop-bit.on c.ranges.word.fits
+    answers_all f c.args.base word c.loop-bit.on c.requires.held c.ranges.word.fits
     (subst (λ n. Answers f c.args.base (64 - count_leading_zeros 64 word) n c.loop-bit.on) e c.loop-bit.invariant.1)

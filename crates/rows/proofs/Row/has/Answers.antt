@@ -1,9 +1,8 @@
 -- The bit that k names is shifted down to bit 0 and tested.
-use Rattle.std.proofs.Common.{◌/◌, ◌%◌, ◌^◌, get_or, sym, ap, ◌∙◌, add-zero}
+use Rattle.std.proofs.Common.{◌/◌, ◌%◌, get_or, sym, ◌∙◌}
 use Rattle.std.proofs.lemmas.Bool.{le-ltb}
-use Rattle.rows.specs.Rows.{bit}
 use Rattle.rows.proofs.Members.{member_bit, member_past}
-use Rattle.rows.proofs.Words.{bit_low, bit_shr}
+use Rattle.rows.proofs.Words.{bit_tested}
 use Rattle.rows.proofs.Row.has.Goals as goal
 
 pub returns-then-k-lt-WIDTH : goal.returns-then-k-lt-WIDTH
@@ -11,8 +10,7 @@ returns-then-k-lt-WIDTH c =
     let row = c.args.self.now in
     let k = c.args.k in
     let word = get_or row.words (k / 64) 0 in
-    bit_low (word / 2 ^ (k % 64)) ∙ bit_shr word (k % 64) 0 ∙ ap (bit word) (add-zero (k % 64))
-    ∙ sym (member_bit row k c.if-k-lt-WIDTH.true)
+    bit_tested word (k % 64) ∙ sym (member_bit row k c.if-k-lt-WIDTH.true)
 
 pub returns-else-k-lt-WIDTH : goal.returns-else-k-lt-WIDTH
 returns-else-k-lt-WIDTH c =

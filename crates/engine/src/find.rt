@@ -15,13 +15,12 @@ ghost use Rattle.kinds.specs.Search.{least_end, stands_at};
 ghost use Rattle.kinds.specs.declared.pattern.Reference.{Reference};
 
 use crate::fragment::Fragment;
-use crate::lent::{Prefix, Suffix};
+use crate::lent::{BackFrom, OnFrom};
 use crate::part::{Part, PlacedPart};
 use crate::pattern::Pattern;
 use crate::reach::reach;
 use crate::scan::next_fit_up_to;
 use crate::smaller::smaller;
-use kinds::backward::Backward;
 use kinds::reading::Reading;
 use rows::Row;
 
@@ -88,16 +87,16 @@ fn end_through<R: Reading>(
 {
     let count = mirror.parts.len();
     let first = count.saturating_sub(fragment.first);
-    let back = Backward::new(Prefix {
+    let back = BackFrom {
         reading,
-        end: place,
-    });
+        start: place,
+    };
     let before = reach(mirror, count.saturating_sub(fragment.anchor), first, &back);
     if !starts(&before, u64::from(place), from, until) {
         return None;
     }
     let base = place.saturating_add(fragment.len as u32);
-    let on = Suffix {
+    let on = OnFrom {
         reading,
         start: base,
     };

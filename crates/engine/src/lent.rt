@@ -1,10 +1,10 @@
-// Readings of a lent reading, for what takes a reading by value: all of it, and each side of a place in it.
-ghost use Rattle.std.specs.Prelude.{take, drop};
-ghost use Rattle.engine.specs.Sides.{take_bounded, drop_bounded};
+// Readings of a lent reading: all of it, and each side of a place in it.
+ghost use Rattle.std.specs.Prelude.{reverse, take, drop};
+ghost use Rattle.engine.specs.Sides.{back_bounded, on_bounded};
 
 use kinds::reading::Reading;
 
-// A lent reading.
+// A lent reading, for what takes a reading by value.
 #[derive(Drop)]
 pub(crate) struct Lent<'r, R> {
     pub(crate) reading: &'r R,
@@ -26,27 +26,29 @@ impl<'r, R: Reading> Reading for Lent<'r, R> {
     }
 }
 
-// A lent reading up to a place, or to its own end where that comes first.
+// A lent reading from a place back, the element before the place first.
+// It is no Backward over a reading up to the place: that tests each place once more, and made a search with gaps slower.
 #[derive(Drop)]
-pub(crate) struct Prefix<'r, R> {
+pub(crate) struct BackFrom<'r, R> {
     pub(crate) reading: &'r R,
-    pub(crate) end: u32,
+    pub(crate) start: u32,
 }
 
-impl<'r, R: Reading> Reading for Prefix<'r, R> {
+impl<'r, R: Reading> Reading for BackFrom<'r, R> {
     type Element = R::Element;
 
-    ghost elements = { λ s. take s.end (R.elements s.reading.now) };
+    ghost elements = { λ s. reverse (take s.start (R.elements s.reading.now)) };
 
-    ghost bounded = { λ s. take_bounded s.end (R.elements s.reading.now) (R.bounded s.reading.now) };
+    ghost bounded = { λ s. back_bounded s.start (R.elements s.reading.now) (R.bounded s.reading.now) };
 
     fn len(&self) -> u32 {
-        self.reading.len().min(self.end)
+        self.reading.len().min(self.start)
     }
 
     fn at(&self, place: u32) -> Option<R::Element> {
-        if place < self.end {
-            self.reading.at(place)
+        let len = self.len();
+        if place < len {
+            self.reading.at(len - 1 - place)
         } else {
             None
         }
@@ -55,17 +57,17 @@ impl<'r, R: Reading> Reading for Prefix<'r, R> {
 
 // A lent reading from a place on.
 #[derive(Drop)]
-pub(crate) struct Suffix<'r, R> {
+pub(crate) struct OnFrom<'r, R> {
     pub(crate) reading: &'r R,
     pub(crate) start: u32,
 }
 
-impl<'r, R: Reading> Reading for Suffix<'r, R> {
+impl<'r, R: Reading> Reading for OnFrom<'r, R> {
     type Element = R::Element;
 
     ghost elements = { λ s. drop s.start (R.elements s.reading.now) };
 
-    ghost bounded = { λ s. drop_bounded s.start (R.elements s.reading.now) (R.bounded s.reading.now) };
+    ghost bounded = { λ s. on_bounded s.start (R.elements s.reading.now) (R.bounded s.reading.now) };
 
     fn len(&self) -> u32 {
         self.reading.len().saturating_sub(self.start)

@@ -60,10 +60,8 @@ impl<'r, R: Reading> Question for Standing<'r, R> {
     ghost asked = { λ s. matches_at (literal s.code) 1 (codes_of R.Element.alphabet (R.elements s.reading.now)) };
 
     fn ask(&self, offset: usize) -> bool {
-        let Ok(place) = u32::try_from(offset) else {
-            return false;
-        };
-        code_at(self.reading, place) == Some(self.code)
+        offset < self.reading.len() as usize
+            && code_at(self.reading, offset as u32) == Some(self.code)
     }
 }
 

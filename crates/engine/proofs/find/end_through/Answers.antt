@@ -1,4 +1,4 @@
-use Rattle.std.proofs.Common.{◌≡◌, ◌+◌, reverse, length, take, vec_items, sym, ap, ◌∙◌, subst, arith}
+use Rattle.std.proofs.Common.{◌≡◌, ◌+◌, length, vec_items, sym, ap, subst, arith}
 use lib.ListN.{length-map}
 use Rattle.engine.specs.Codes.{codes_of}
 use Rattle.engine.specs.Finding.{Reached, Start, part_of}
@@ -19,7 +19,7 @@ returns-then-not-starts g c a sides stands =
     let m = c.saturating_sub.result in
     let n = c.saturating_sub-first.result in
     let size : length (held mirror) ≡ length (vec_items mirror.parts) = length-map (vec_items mirror.parts) (placed_of (vec_items mirror.codes) (vec_items mirror.runs)) in
-    let before = subst (λ ys. Reached (part_of (held mirror) m n) ys c.reach-before.result) (ap (λ p. codes_of alphabet (reverse (take p.end (g.R.Reading.elements p.reading.now)))) c.new-back.ensures ∙ codes_before alphabet elements c.args.place) c.reach-before.ensures in
+    let before = subst (λ ys. Reached (part_of (held mirror) m n) ys c.reach-before.result) (codes_before alphabet elements c.args.place) c.reach-before.ensures in
     through_no_start (held pattern) (held mirror) c.args.fragment.now a sides xs c.args.place stands c.args.from c.args.until
     c.reach-before.result m n (omega arith) (omega arith) before
     (λ s. both_ways _ c.if-not-starts.true (c.starts.ensures.1 (subst (λ p. Start c.reach-before.result p c.args.from c.args.until) (sym c.from.ensures) s)))
@@ -39,7 +39,7 @@ returns-in-Some g c a sides stands =
     let inside = anchor_inside (held pattern) (held mirror) f a sides xs c.args.place stands c.args.from c.args.until in
     let few = g.R.Reading.bounded c.args.reading.now in
     let many = length-map (g.R.Reading.elements c.args.reading.now) g.R.Element.Kind.alphabet.code in
-    let before = subst (λ ys. Reached (part_of (held mirror) m n) ys c.reach-before.result) (ap (λ p. codes_of alphabet (reverse (take p.end (g.R.Reading.elements p.reading.now)))) c.new-back.ensures ∙ codes_before alphabet elements c.args.place) c.reach-before.ensures in
+    let before = subst (λ ys. Reached (part_of (held mirror) m n) ys c.reach-before.result) (codes_before alphabet elements c.args.place) c.reach-before.ensures in
     let behind = subst (λ ys. Reached (part_of (held pattern) (f.anchor + f.len) f.end) ys c.reach-behind.result) (codes_behind alphabet elements c.saturating_add-base.result) c.reach-behind.ensures in
     through_first (held pattern) (held mirror) f a sides xs c.args.place stands c.args.from c.args.until
     c.reach-before.result c.reach-behind.result m n b c.in-Some.far (omega arith) (omega arith) (omega arith)

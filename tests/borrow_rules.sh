@@ -28,7 +28,7 @@ fn handed_over<R: Reading + Drop>(reading: R) -> u32 {
 }
 
 fn main() {
-    let mut bytes = [Byte::new(0x41), Byte::new(0x42)];
+    let mut bytes = [Byte::from(0x41), Byte::from(0x42)];
     let reading = Held::new(&bytes);
 HEAD
         sed 's/^/    /'
@@ -39,17 +39,17 @@ HEAD
 program handed_over_twice <<'BODY'
 let _first = handed_over(reading);
 let _second = handed_over(reading);
-bytes[0] = Byte::new(0);
+bytes[0] = Byte::from(0);
 BODY
 program written_under_reading <<'BODY'
-bytes[0] = Byte::new(0);
+bytes[0] = Byte::from(0);
 let _first = handed_over(reading);
 BODY
 program lawful <<'BODY'
 let _first = handed_over(reading);
 let again = Held::new(&bytes);
 let _second = handed_over(again);
-bytes[0] = Byte::new(0);
+bytes[0] = Byte::from(0);
 BODY
 printf '%s\n' 'kinds:' 'handed_over_twice: kinds' 'written_under_reading: kinds' 'lawful: kinds' >"$work/crates.txt"
 cd "$work"

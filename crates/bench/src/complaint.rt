@@ -1,5 +1,5 @@
 // Why nothing was measured.
-use std::alloc::{AllocError, AllocFailed};
+use std::alloc::AllocError;
 use std::{fmt, io};
 
 #[derive(Drop)]
@@ -25,12 +25,6 @@ impl fmt::Display for Complaint {
 
 impl From<AllocError> for Complaint {
     fn from(_e: AllocError) -> Complaint {
-        Complaint::Memory
-    }
-}
-
-impl<T: Drop> From<AllocFailed<T>> for Complaint {
-    fn from(_e: AllocFailed<T>) -> Complaint {
         Complaint::Memory
     }
 }

@@ -25,15 +25,8 @@ const USAGE: &str = "bench FILE TEXT [RUNS] [backward]";
 
 // The bytes of a file, as elements.
 fn bytes_of(rt: &HostRuntime, file: &str) -> Result<Vec<Byte>, Complaint> {
-    let bytes = match fs::read(rt, file) {
-        Ok(bytes) => bytes,
-        Err(e) => return Err(Complaint::Unreadable(e)),
-    };
-    let mut elements = Vec::with_capacity(rt.alloc(), bytes.len())?;
-    for byte in bytes.as_slice() {
-        elements.push(Byte::new(*byte))?;
-    }
-    Ok(elements)
+    let bytes = fs::read(rt, file).map_err(Complaint::Unreadable)?;
+    Ok(bytes.iter().copied().map(Byte::from).collect(rt.alloc())?)
 }
 
 // The measure of a request's search, or the refusal of its text, as a line.
@@ -69,10 +62,7 @@ fn refusal(heap: Global, fault: Fault) -> Result<String, Complaint> {
 
 fn run(rt: &HostRuntime) -> Result<(), Complaint> {
     let args: Vec<String> = env::args(rt)?.skip(1).collect(rt.alloc())?;
-    let mut words = Vec::new(rt.alloc());
-    for word in args.as_slice() {
-        words.push(word.as_str())?;
-    }
+    let words: Vec<&str> = args.iter().map(|word| word.as_str()).collect(rt.alloc())?;
     match request_of(words.as_slice())? {
         None => rt.println(USAGE)?,
         Some(request) => rt.println(answer(rt, request)?.as_str())?,

@@ -38,8 +38,8 @@ pub fn request_of<'w>(words: &[&'w str]) -> Result<Option<Request<'w>>, Complain
 }
 
 fn runs_of(word: &str) -> Result<u32, Complaint> {
-    match word.parse::<u32>() {
-        Ok(runs) if runs > 0 => Ok(runs),
-        _ => Err(Complaint::Runs),
-    }
+    word.parse()
+        .ok()
+        .filter(|runs| *runs > 0)
+        .ok_or(Complaint::Runs)
 }

@@ -1,8 +1,9 @@
 -- Elements written as their pairs, run together.
-use Rattle.std.specs.Prelude.{ℕ, ◌+◌, List, [], ◌∷◌, Some, None, Ok, Err, Option, Result}
+use Rattle.std.specs.Prelude.{ℕ, ◌+◌, List, [], ◌∷◌, ◌++◌, codes, Some, None, Ok, Err, Option, Result}
+use Rattle.std.specs.Fmt.{decimal}
 use Rattle.kinds.specs.Alphabet.{Alphabet}
 use Rattle.kinds.specs.declared.spelling.SpellingFault.{SpellingFault}
-use Rattle.kinds.specs.declared.spelling.SpellingFault.TheVariants.{Unnamed, Odd}
+use Rattle.kinds.specs.declared.spelling.SpellingFault.TheVariants.{Unnamed, Odd, Memory}
 
 -- one element in front of the rest, unless either is at fault; the pair's own fault comes first
 abbrev pub in_front : {E : Type 0} → ℕ → Option E → Result (List E) SpellingFault → Result (List E) SpellingFault
@@ -19,3 +20,9 @@ spelled_from a place (first ∷ second ∷ rest) = in_front place (a.named first
 
 abbrev pub spelled : {E : Type 0} → Alphabet E → List ℕ → Result (List E) SpellingFault
 spelled a text = spelled_from a 0 text
+
+-- a fault as text
+abbrev pub fault_text : SpellingFault → List ℕ
+fault_text (Unnamed place) = codes "no element is named at " ++ decimal place
+fault_text Odd = codes "odd number of characters"
+fault_text Memory = codes "no memory"

@@ -1,7 +1,7 @@
 // The commands, each from a line's words to its answer.
 use crate::complaint::Complaint;
 use crate::elements::elements_of;
-use crate::patterns::{Words, hit, read, shown};
+use crate::patterns::{Sequence, hit, read, shown};
 use kinds::backward::Backward;
 use kinds::byte::Byte;
 use kinds::held::Held;
@@ -11,6 +11,35 @@ use kinds::marks::Marks;
 use kinds::reading::{Reading, to_vec};
 use std::alloc::{AllocError, Global};
 
+// Which way a reading goes over its elements.
+#[derive(Clone, Copy)]
+enum Order {
+    Forward,
+    Backward,
+}
+
+// A command over elements of some kind, with its words.
+#[derive(Clone, Copy)]
+enum Command<'l> {
+    Codes(Order, &'l str),
+    Read(&'l str),
+    Show(Sequence<'l>, &'l str, &'l str),
+    Hit(Sequence<'l>, &'l str),
+}
+
+impl Command<'_> {
+    fn answer<K: Kind>(self, heap: Global) -> Result<String, Complaint> {
+        match self {
+            Command::Codes(order, elements) => codes::<K>(heap, order, elements),
+            Command::Read(text) => read::<K>(heap, text),
+            Command::Show(sequence, fragment, index) => {
+                shown::<K>(heap, sequence, fragment, index)
+            }
+            Command::Hit(sequence, elements) => hit::<K>(heap, sequence, elements),
+        }
+    }
+}
+
 pub fn answer(heap: Global, line: &str) -> Result<String, Complaint> {
     if line.is_empty() {
         return Err(Complaint::EmptyLine);
@@ -19,86 +48,79 @@ pub fn answer(heap: Global, line: &str) -> Result<String, Complaint> {
     if words.as_slice().contains(&"") {
         return Err(Complaint::EmptyWord);
     }
-    match words.as_slice() {
-        ["codes", kind, elements] => codes(heap, kind, elements),
-        ["backward", kind, elements] => backward(heap, kind, elements),
-        ["marks", bytes] => marks(heap, bytes),
-        ["read", kind, text] => read(heap, kind, text),
+    let (kind, command) = match words.as_slice() {
+        ["marks", bytes] => return marks(heap, bytes),
+        ["codes", kind, elements] => (kind, Command::Codes(Order::Forward, elements)),
+        ["backward", kind, elements] => (kind, Command::Codes(Order::Backward, elements)),
+        ["read", kind, text] => (kind, Command::Read(text)),
         ["show", kind, reference, lo, hi, text, fragment, index] => {
-            let words = Words {
+            let sequence = Sequence {
                 reference,
                 lo,
                 hi,
                 text,
             };
-            shown(heap, kind, words, fragment, index)
+            (kind, Command::Show(sequence, fragment, index))
         }
         ["hit", kind, reference, lo, hi, text, elements] => {
-            let words = Words {
+            let sequence = Sequence {
                 reference,
                 lo,
                 hi,
                 text,
             };
-            hit(heap, kind, words, elements)
+            (kind, Command::Hit(sequence, elements))
         }
-        ["codes" | "backward" | "marks" | "read" | "show" | "hit", ..] => Err(
-            Complaint::NumberOfWords,
-        ),
-        _ => Err(Complaint::UnknownCommand),
-    }
+        ["codes" | "backward" | "marks" | "read" | "show" | "hit", ..] => {
+            return Err(Complaint::NumberOfWords);
+        }
+        _ => return Err(Complaint::UnknownCommand),
+    };
+    of_kind(heap, kind, command)
 }
 
-fn codes(heap: Global, kind: &str, elements: &str) -> Result<String, Complaint> {
+// A command's answer, over elements of the kind that a word names.
+fn of_kind(heap: Global, kind: &str, command: Command) -> Result<String, Complaint> {
     match kind {
-        "byte" => codes_of::<Byte>(heap, elements),
-        "mark" => codes_of::<Mark>(heap, elements),
+        "byte" => command.answer::<Byte>(heap),
+        "mark" => command.answer::<Mark>(heap),
         _ => Err(Complaint::UnknownKind),
     }
 }
 
-fn backward(heap: Global, kind: &str, elements: &str) -> Result<String, Complaint> {
-    match kind {
-        "byte" => backward_codes_of::<Byte>(heap, elements),
-        "mark" => backward_codes_of::<Mark>(heap, elements),
-        _ => Err(Complaint::UnknownKind),
-    }
-}
-
-fn codes_of<K: Kind>(heap: Global, word: &str) -> Result<String, Complaint> {
+fn codes<K: Kind>(heap: Global, order: Order, word: &str) -> Result<String, Complaint> {
     let elements: Vec<K> = elements_of(heap, word)?;
-    Ok(written_codes(heap, &Held::new(elements.as_slice()))?)
-}
-
-fn backward_codes_of<K: Kind>(heap: Global, word: &str) -> Result<String, Complaint> {
-    let elements: Vec<K> = elements_of(heap, word)?;
-    Ok(written_codes(heap, &Backward::new(Held::new(elements.as_slice())))?)
+    let held = Held::new(elements.as_slice());
+    let text = match order {
+        Order::Forward => written_codes(heap, &held)?,
+        Order::Backward => written_codes(heap, &Backward::new(held))?,
+    };
+    Ok(text)
 }
 
 // The codes of a reading, separated by spaces, `-` for none.
 fn written_codes<R: Reading>(heap: Global, reading: &R) -> Result<String, AllocError> {
-    let mut text = String::new(heap);
-    for x in to_vec(heap, reading)? {
-        if !text.is_empty() {
-            text.push(' ')?;
-        }
-        text.push_str(x.code().to_string(heap)?.as_str())?;
-    }
-    if text.is_empty() {
-        text.push('-')?;
-    }
-    Ok(text)
+    let elements = to_vec(heap, reading)?;
+    let codes: Vec<String> = elements
+        .iter()
+        .map(|x| x.code().to_string(heap))
+        .try_collect(heap)?;
+    or_dash(codes.join(heap, " ")?)
 }
 
 // The pairs of the axle marks over bytes, run together, `-` for none.
 fn marks(heap: Global, word: &str) -> Result<String, Complaint> {
     let bytes: Vec<Byte> = elements_of(heap, word)?;
-    let mut text = String::new(heap);
-    for mark in to_vec(heap, &Marks::new(Held::new(bytes.as_slice())))? {
-        let (letter, digit) = mark.pair();
-        text.push(char::from(letter))?;
-        text.push(char::from(digit))?;
-    }
+    let marks = to_vec(heap, &Marks::new(Held::new(bytes.as_slice())))?;
+    let pairs: String = marks
+        .iter()
+        .map(|mark| mark.to_string(heap))
+        .try_collect(heap)?;
+    Ok(or_dash(pairs)?)
+}
+
+// A text, `-` for an empty one.
+fn or_dash(mut text: String) -> Result<String, AllocError> {
     if text.is_empty() {
         text.push('-')?;
     }

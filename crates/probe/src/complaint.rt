@@ -1,6 +1,6 @@
 // Why a line has no answer.
 use kinds::spelling::SpellingFault;
-use std::alloc::{AllocError, AllocFailed};
+use std::alloc::AllocError;
 use std::fmt;
 
 #[derive(Drop)]
@@ -12,8 +12,7 @@ pub enum Complaint {
     UnknownCommand,
     UnknownKind,
     NumberOfWords,
-    OddCharacters,
-    Unnamed(usize),
+    Spelling(SpellingFault),
     UnknownReference,
     NotANumber,
     NotAnIndex,
@@ -31,8 +30,7 @@ impl fmt::Display for Complaint {
             Complaint::UnknownCommand => write!(f, "unknown command"),
             Complaint::UnknownKind => write!(f, "unknown kind"),
             Complaint::NumberOfWords => write!(f, "wrong number of words"),
-            Complaint::OddCharacters => write!(f, "odd number of characters"),
-            Complaint::Unnamed(place) => write!(f, "no element is named at {place}"),
+            Complaint::Spelling(fault) => write!(f, "{fault}"),
             Complaint::UnknownReference => write!(f, "unknown reference"),
             Complaint::NotANumber => write!(f, "not a number from 0 to 65535"),
             Complaint::NotAnIndex => write!(f, "not an index of two hexadecimal digits"),
@@ -48,18 +46,11 @@ impl From<AllocError> for Complaint {
     }
 }
 
-impl<T: Drop> From<AllocFailed<T>> for Complaint {
-    fn from(_e: AllocFailed<T>) -> Complaint {
-        Complaint::Memory(AllocError)
-    }
-}
-
 impl From<SpellingFault> for Complaint {
     fn from(fault: SpellingFault) -> Complaint {
         match fault {
-            SpellingFault::Unnamed(place) => Complaint::Unnamed(place),
-            SpellingFault::Odd => Complaint::OddCharacters,
             SpellingFault::Memory => Complaint::Memory(AllocError),
+            fault => Complaint::Spelling(fault),
         }
     }
 }

@@ -20,10 +20,7 @@ fn text_of(line: &[u8]) -> Result<&str, Complaint> {
         [text @ .., b'\n'] => text,
         _ => line,
     };
-    match std::str::from_utf8(line) {
-        Ok(text) => Ok(text),
-        Err(_) => Err(Complaint::NotText),
-    }
+    std::str::from_utf8(line).map_err(|_| Complaint::NotText)
 }
 
 fn respond(heap: Global, line: &[u8]) -> Result<String, Complaint> {

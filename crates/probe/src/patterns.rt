@@ -9,13 +9,13 @@ use engine::text::{checked, show};
 use kinds::byte::Byte;
 use kinds::held::Held;
 use kinds::kind::Kind;
-use kinds::mark::Mark;
 use kinds::pattern::Reference;
 use std::alloc::{AllocError, Global};
+use std::str::FromStr;
 
 // A sequence as a line gives it.
 #[derive(Clone, Copy)]
-pub struct Words<'l> {
+pub struct Sequence<'l> {
     pub reference: &'l str,
     pub lo: &'l str,
     pub hi: &'l str,
@@ -30,38 +30,39 @@ struct Offsets {
     hi: u16,
 }
 
-pub fn read(heap: Global, kind: &str, text: &str) -> Result<String, Complaint> {
-    match kind {
-        "byte" => read_as::<Byte>(heap, text),
-        "mark" => read_as::<Mark>(heap, text),
-        _ => Err(Complaint::UnknownKind),
+// The letter of a reference.
+struct Letter(Reference);
+
+impl FromStr for Letter {
+    type Err = Complaint;
+
+    fn from_str(word: &str) -> Result<Letter, Complaint> {
+        match word {
+            "B" => Ok(Letter(Reference::Front)),
+            "E" => Ok(Letter(Reference::Back)),
+            "V" => Ok(Letter(Reference::Anywhere)),
+            _ => Err(Complaint::UnknownReference),
+        }
     }
 }
 
-pub fn shown(
-    heap: Global,
-    kind: &str,
-    words: Words,
-    fragment: &str,
-    index: &str,
-) -> Result<String, Complaint> {
-    match kind {
-        "byte" => shown_as::<Byte>(heap, words, fragment, index),
-        "mark" => shown_as::<Mark>(heap, words, fragment, index),
-        _ => Err(Complaint::UnknownKind),
-    }
-}
+impl TryFrom<Sequence<'_>> for Offsets {
+    type Error = Complaint;
 
-pub fn hit(heap: Global, kind: &str, words: Words, elements: &str) -> Result<String, Complaint> {
-    match kind {
-        "byte" => hit_as::<Byte>(heap, words, elements),
-        "mark" => hit_as::<Mark>(heap, words, elements),
-        _ => Err(Complaint::UnknownKind),
+    fn try_from(sequence: Sequence) -> Result<Offsets, Complaint> {
+        let Letter(reference) = sequence.reference.parse()?;
+        let lo = number_of(sequence.lo)?;
+        let hi = number_of(sequence.hi)?;
+        match reference {
+            Reference::Anywhere if lo > 0 || hi > 0 => Err(Complaint::OffsetsAnywhere),
+            Reference::Front | Reference::Back if lo > hi => Err(Complaint::OffsetsCrossed),
+            _ => Ok(Offsets { reference, lo, hi }),
+        }
     }
 }
 
 // The number of a text's fragments, or its refusal.
-fn read_as<K: Kind>(heap: Global, text: &str) -> Result<String, Complaint> {
+pub fn read<K: Kind>(heap: Global, text: &str) -> Result<String, Complaint> {
     match checked::<K>(heap, 1, text.as_bytes()) {
         Ok(pattern) => {
             let count = fragment_count(&pattern);
@@ -72,20 +73,20 @@ fn read_as<K: Kind>(heap: Global, text: &str) -> Result<String, Complaint> {
 }
 
 // The numbers of a text's fragment, or the text's refusal.
-fn shown_as<K: Kind>(
+pub fn shown<K: Kind>(
     heap: Global,
-    words: Words,
+    sequence: Sequence,
     fragment: &str,
     index: &str,
 ) -> Result<String, Complaint> {
-    let offsets = offsets_of(words)?;
+    let offsets = Offsets::try_from(sequence)?;
     let fragment = number_of(fragment)?;
     let index = index_of(index)?;
     match show::<K>(
         heap,
         offsets.reference,
         offsets.lo,
-        words.text.as_bytes(),
+        sequence.text.as_bytes(),
         usize::from(fragment),
         index,
     ) {
@@ -96,15 +97,15 @@ fn shown_as<K: Kind>(
 }
 
 // Whether a sequence hits the reading of the elements, or the text's refusal.
-fn hit_as<K: Kind>(heap: Global, words: Words, elements: &str) -> Result<String, Complaint> {
-    let offsets = offsets_of(words)?;
+pub fn hit<K: Kind>(heap: Global, sequence: Sequence, elements: &str) -> Result<String, Complaint> {
+    let offsets = Offsets::try_from(sequence)?;
     let elements: Vec<K> = elements_of(heap, elements)?;
     match text::hit(
         heap,
         offsets.reference,
         offsets.lo,
         offsets.hi,
-        words.text.as_bytes(),
+        sequence.text.as_bytes(),
         &Held::new(elements.as_slice()),
     ) {
         Ok(true) => Ok(String::from_str(heap, "hit")?),
@@ -127,36 +128,16 @@ fn refusal(heap: Global, fault: Fault) -> Result<String, Complaint> {
     Ok(format!(in heap; "refused {number} {sequence} {place}")?)
 }
 
-fn offsets_of(words: Words) -> Result<Offsets, Complaint> {
-    let reference = match words.reference {
-        "B" => Reference::Front,
-        "E" => Reference::Back,
-        "V" => Reference::Anywhere,
-        _ => return Err(Complaint::UnknownReference),
-    };
-    let lo = number_of(words.lo)?;
-    let hi = number_of(words.hi)?;
-    match reference {
-        Reference::Anywhere if lo > 0 || hi > 0 => Err(Complaint::OffsetsAnywhere),
-        Reference::Front | Reference::Back if lo > hi => Err(Complaint::OffsetsCrossed),
-        _ => Ok(Offsets { reference, lo, hi }),
-    }
-}
-
 fn number_of(word: &str) -> Result<u16, Complaint> {
-    match word.parse::<u16>() {
-        Ok(number) => Ok(number),
-        Err(_) => Err(Complaint::NotANumber),
-    }
+    word.parse().map_err(|_| Complaint::NotANumber)
 }
 
 // An index: two hexadecimal digits, as a byte is written.
 fn index_of(word: &str) -> Result<u8, Complaint> {
-    match word.as_bytes() {
-        [first, second] => match Byte::named(*first, *second) {
-            Some(byte) => Ok(byte.value()),
-            None => Err(Complaint::NotAnIndex),
-        },
-        _ => Err(Complaint::NotAnIndex),
-    }
+    let [first, second] = word.as_bytes() else {
+        return Err(Complaint::NotAnIndex);
+    };
+    Byte::named(*first, *second)
+        .map(u8::from)
+        .ok_or(Complaint::NotAnIndex)
 }

@@ -1,12 +1,11 @@
 -- What stands at a place of a list that is reversed, mapped or cut.
-use Rattle.std.proofs.Common.{◌≡◌, ℕ, zero, suc, ◌+◌, ◌-◌, ◌<◌, ◌≤◌, min, List, [], ◌∷◌, ◌++◌, map, reverse, length, take, Some, None, Option, sym, refl, ap, ◌∙◌, ⊎_elim, add-one, add-zero, zero-add, arith, take_all, Bor}
+use Rattle.std.proofs.Common.{◌≡◌, ℕ, zero, suc, ◌+◌, ◌-◌, ◌<◌, ◌≤◌, List, [], ◌∷◌, reverse, length, Some, None, Option, sym, refl, ap, ◌∙◌, add-zero, zero-add, arith, Bor}
 use lib.ListN.{length-reverse}
 use Rattle.std.specs.List.{slice_get, cons_option, filter_map, range_with_len}
 use Rattle.std.specs.Option.{option_map}
 use Rattle.std.specs.Slice.{IsGetResult}
 use Rattle.std.proofs.lemmas.List.{get_or-reverse}
 use Rattle.std.proofs.lemmas.Option.{slice_get-get_or, slice_get_past}
-use Rattle.std.proofs.lemmas.Bool.{cases_lt}
 
 -- a place of the reversed list, counted from the end
 pub nth_reverse : {X : Type 0} (xs : List X) (k : ℕ) → k < length xs → slice_get (reverse xs) k ≡ slice_get xs (length xs - 1 - k)

@@ -1,5 +1,5 @@
 -- What an element kind is, and the law that it keeps.
-use Rattle.std.specs.Prelude.{◌≡◌, ℕ, ◌<◌, Bool, true, ◌&&◌, ◌||◌, Some, Option, nat_le}
+use Rattle.std.specs.Prelude.{◌≡◌, ◌≢◌, ℕ, ◌<◌, Bool, true, ◌&&◌, ◌||◌, Some, Option, nat_le}
 
 -- n lies from low to high, both included
 abbrev pub within : ℕ → ℕ → ℕ → Bool
@@ -28,4 +28,4 @@ pub record Lawful {E : Type 0} (a : Alphabet E) : Type 0 where
   -- the two record kinds fit 16 bits and differ
   pub signature_record_fits : a.signature_record < 65536
   pub format_record_fits : a.format_record < 65536
-  pub records_differ : a.signature_record ≡ a.format_record → ⊥
+  pub records_differ : a.signature_record ≢ a.format_record

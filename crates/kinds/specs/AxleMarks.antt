@@ -1,5 +1,5 @@
 -- Axle marks as a kind: U0, S0 to S9 and D0 to D9.
-use Rattle.std.specs.Prelude.{ℕ, ◌+◌, ◌-◌, ◌%◌, cond, ◌&&◌, List, [], ◌∷◌, Some, None, Option, ◌==◌, nat_lt}
+use Rattle.std.specs.Prelude.{ℕ, ◌+◌, ◌-◌, ◌%◌, if◌then◌else◌, not, ◌&&◌, List, [], ◌∷◌, Some, None, Option, ◌==◌, nat_lt}
 use Rattle.std.proofs.Common.{arith}
 use Rattle.kinds.specs.Alphabet.{Alphabet, within}
 use Rattle.kinds.specs.declared.byte.Byte.{Byte}
@@ -13,7 +13,7 @@ band n = record { digit = n % 10; decimal = omega arith }
 
 -- a number is a band or none
 abbrev pub banded : ℕ → Option Band
-banded n = cond (nat_lt n 10) (Some (band n)) None
+banded n = if nat_lt n 10 then Some (band n) else None
 
 abbrev pub digit_of : Band → ℕ
 digit_of b = b.digit
@@ -21,8 +21,9 @@ digit_of b = b.digit
 -- bytes 10 to 19 are S0 to S9, 20 to 29 D0 to D9 (hexadecimal), all others U0
 abbrev pub mark_of : Byte → Mark
 mark_of b =
-    cond (within 0x10 0x19 b.value) (Single (band (b.value - 0x10)))
-    (cond (within 0x20 0x29 b.value) (Dual (band (b.value - 0x20))) Unread)
+    if within 0x10 0x19 b.value then Single (band (b.value - 0x10))
+    else if within 0x20 0x29 b.value then Dual (band (b.value - 0x20))
+    else Unread
 
 abbrev pub mark_code : Mark → ℕ
 mark_code Unread = 0
@@ -32,11 +33,11 @@ mark_code (Dual b) = 32 + b.digit
 -- the letter U, S or D, and a digit of which U takes 0 alone
 abbrev pub mark_named : ℕ → ℕ → Option Mark
 mark_named letter digit =
-    cond (within 48 57 digit)
-    (cond (letter == 85 && digit == 48) (Some Unread)
-    (cond (letter == 83) (Some (Single (band (digit - 48))))
-    (cond (letter == 68) (Some (Dual (band (digit - 48)))) None)))
-    None
+    if not (within 48 57 digit) then None
+    else if letter == 85 && digit == 48 then Some Unread
+    else if letter == 83 then Some (Single (band (digit - 48)))
+    else if letter == 68 then Some (Dual (band (digit - 48)))
+    else None
 
 abbrev pub mark_pair : Mark → ℕ × ℕ
 mark_pair Unread = (85, 48)

@@ -1,5 +1,5 @@
 -- Bytes as a kind: the code is the value, the pair two hexadecimal digits in upper case.
-use Rattle.std.specs.Prelude.{ℕ, ◌+◌, ◌-◌, ◌*◌, ◌%◌, cond, Some, None, Option}
+use Rattle.std.specs.Prelude.{ℕ, ◌+◌, ◌-◌, ◌*◌, ◌%◌, if◌then◌else◌, Some, None, Option}
 use Rattle.std.proofs.Common.{arith}
 use Rattle.kinds.specs.Alphabet.{Alphabet, within}
 use Rattle.kinds.specs.declared.byte.Byte.{Byte}
@@ -10,7 +10,10 @@ byte n = record { value = n % 256; fits = omega arith }
 
 -- the value of a digit 0-9 or A-F
 abbrev pub hexadecimal : ℕ → Option ℕ
-hexadecimal c = cond (within 48 57 c) (Some (c - 48)) (cond (within 65 70 c) (Some (c - 55)) None)
+hexadecimal c =
+    if within 48 57 c then Some (c - 48)
+    else if within 65 70 c then Some (c - 55)
+    else None
 
 -- the byte of a high and a low digit
 abbrev pub of_digits : Option ℕ → Option ℕ → Option Byte

@@ -1,5 +1,5 @@
 -- The fragments of a pattern, the limits on them, and the numbers that they are compiled to.
-use Rattle.std.specs.Prelude.{ℕ, suc, ◌+◌, ◌%◌, min, max, Bool, true, false, cond, not, ◌&&◌, ◌||◌, List, [], ◌∷◌, ◌++◌, map, length, Some, None, Option, ◌==◌, nat_le, nat_lt}
+use Rattle.std.specs.Prelude.{ℕ, suc, ◌+◌, ◌%◌, min, max, Bool, true, false, if◌then◌else◌, not, ◌&&◌, ◌||◌, List, [], ◌∷◌, ◌++◌, map, length, Some, None, Option, ◌==◌, nat_le, nat_lt}
 use Rattle.kinds.specs.Grammar.{Placed}
 use Rattle.kinds.specs.Patterns.{Item, literal, any, group, range, other, gap, compared, same, up_to, mirrored_item}
 use Rattle.kinds.specs.declared.pattern.Direction.{Direction}
@@ -111,7 +111,7 @@ least_with (Some m) n = Some (min m n)
 -- the smallest place of a wrong item, and what was found before
 abbrev pub wrong_place : Option ℕ → List Placed → Option ℕ
 wrong_place found [] = found
-wrong_place found (q ∷ qs) = wrong_place (cond (wrong q.item) (least_with found q.place) found) qs
+wrong_place found (q ∷ qs) = wrong_place (if wrong q.item then least_with found q.place else found) qs
 
 -- where a fragment begins
 abbrev pub first_place : List Placed → ℕ
@@ -122,7 +122,7 @@ first_place (q ∷ qs) = q.place
 abbrev pub fragment_place : ℕ → Option ℕ → List Fragment → Option ℕ
 fragment_place number found [] = found
 fragment_place number found (f ∷ fs) =
-    fragment_place (suc number) (cond (nat_le 8 number || nat_lt 1024 (sum span f.body)) (least_with found (first_place f.body)) found) fs
+    fragment_place (suc number) (if nat_le 8 number || nat_lt 1024 (sum span f.body) then least_with found (first_place f.body) else found) fs
 
 -- the smallest place that is beyond a limit
 abbrev pub limit_place : List Placed → Option ℕ
@@ -139,7 +139,7 @@ is_literal (gap m n) = false
 -- where the first fragment without a literal outside groups and ranges begins
 abbrev pub bare_place : List Fragment → Option ℕ
 bare_place [] = None
-bare_place (f ∷ fs) = cond (some is_literal f.body) (bare_place fs) (Some (first_place f.body))
+bare_place (f ∷ fs) = if some is_literal f.body then bare_place fs else Some (first_place f.body)
 
 -- Compiled numbers. A sequence from the back is compiled mirrored, so its fragments are numbered from the back.
 
@@ -192,7 +192,7 @@ better Anywhere old new = nat_le (length old.codes) (length new.codes)
 
 abbrev pub best : Reference → Anchor → List Anchor → Anchor
 best r old [] = old
-best r old (new ∷ more) = best r (cond (better r old new) new old) more
+best r old (new ∷ more) = best r (if better r old new then new else old) more
 
 -- the anchor of a fragment's items: the best run of literals, or none of the codes where there is no literal
 abbrev pub anchor : Reference → List Item → Anchor
@@ -209,7 +209,7 @@ lead a = sum_least a.front
 -- the distances of the codes that have an index, counting the last code as 1
 abbrev pub distances : List ℕ → ℕ → List ℕ
 distances [] index = []
-distances (c ∷ cs) index = cond (c % 256 == index) (suc (length cs) ∷ distances cs index) (distances cs index)
+distances (c ∷ cs) index = if c % 256 == index then suc (length cs) ∷ distances cs index else distances cs index
 
 abbrev pub smallest : ℕ → List ℕ → ℕ
 smallest n [] = n

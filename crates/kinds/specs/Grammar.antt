@@ -1,5 +1,5 @@
 -- The texts of patterns: which text says which items. A text is a list of characters, by their bytes.
-use Rattle.std.specs.Prelude.{◌≡◌, ℕ, ◌+◌, ◌-◌, ◌*◌, ◌<◌, ◌≤◌, Bool, true, false, ◌⊎◌, List, [], ◌∷◌, ◌++◌, length, take, Some, None, codes, Option}
+use Rattle.std.specs.Prelude.{◌≡◌, ℕ, ◌+◌, ◌-◌, ◌*◌, ◌<◌, ◌≤◌, Bool, true, false, ◌⊎◌, List, [], ◌∷◌, ◌++◌, length, take, Some, None, codes, Option, ⊤}
 use Rattle.kinds.specs.Alphabet.{Alphabet, within}
 use Rattle.kinds.specs.Patterns.{Item, literal, any, group, range, other, gap}
 use Rattle.kinds.specs.declared.pattern.Direction.TheVariants.{FirstOn}
@@ -11,7 +11,7 @@ pub record Placed : Type 0 where
 
 -- a number has one to four digits
 abbrev pub Digits : List ℕ → Type 0
-Digits [] = Unit {0}
+Digits [] = ⊤
 Digits (d ∷ ds) = (within 48 57 d ≡ true) × Digits ds
 
 -- the number n with further digits behind it
@@ -122,4 +122,4 @@ Begins a t = (more : List ℕ) × (qs : List Placed) × Text a qs (t ++ more)
 pub record Longest {E : Type 0} (a : Alphabet E) (t : List ℕ) (n : ℕ) : Type 0 where
   pub within_text : n ≤ length t
   pub begins : Begins a (take n t)
-  pub no_longer : (k : ℕ) → n < k → k ≤ length t → Begins a (take k t) → ⊥
+  pub no_longer : (k : ℕ) → n < k → k ≤ length t → ¬ Begins a (take k t)

@@ -1,6 +1,6 @@
 -- What a pattern means: which lists its things and gaps match, and when a sequence hits a reading.
 -- Lists here are lists of codes: two elements are equal exactly when their codes are, and codes order them.
-use Rattle.std.specs.Prelude.{◌≡◌, ℕ, ◌<◌, ◌≤◌, Bool, true, false, not, ◌&&◌, ◌||◌, ◌⊎◌, List, [], ◌∷◌, ◌++◌, reverse, length, Some, None, Option, ◌==◌, ◌≢◌, nat_le, nat_lt}
+use Rattle.std.specs.Prelude.{◌≡◌, ℕ, ◌<◌, ◌≤◌, Bool, true, false, not, ◌&&◌, ◌||◌, ◌⊎◌, List, [], ◌∷◌, ◌++◌, reverse, length, Some, None, Option, ◌==◌, ◌≢◌, nat_le, nat_lt, ⊤}
 use Rattle.kinds.specs.Alphabet.{within}
 use Rattle.kinds.specs.declared.pattern.Direction.{Direction}
 use Rattle.kinds.specs.declared.pattern.Direction.TheVariants.{FirstOn, LastOn}
@@ -27,7 +27,7 @@ compared LastOn xs = reverse xs
 
 -- one list comes before another of its length, by the first code that differs, or is the same
 abbrev pub UpTo : List ℕ → List ℕ → Type 0
-UpTo [] ys = Unit {0}
+UpTo [] ys = ⊤
 UpTo (x ∷ xs) [] = ⊥
 UpTo (x ∷ xs) (y ∷ ys) = (x < y) ⊎ ((x ≡ y) × UpTo xs ys)
 
@@ -40,7 +40,7 @@ Among xs [] = ⊥
 Among xs (run ∷ runs) = (xs ≡ run) ⊎ Among xs runs
 
 abbrev pub AtMost : Option ℕ → ℕ → Type 0
-AtMost None n = Unit {0}
+AtMost None n = ⊤
 AtMost (Some most) n = n ≤ most
 
 -- an item matches a list: all of it, and nothing more
@@ -49,7 +49,7 @@ Matches (literal c) xs = xs ≡ c ∷ []
 Matches any xs = length xs ≡ 1
 Matches (group runs) xs = Among xs runs
 Matches (range d true low high) xs = (length xs ≡ length low) × Between d low high xs
-Matches (range d false low high) xs = (length xs ≡ length low) × (Between d low high xs → ⊥)
+Matches (range d false low high) xs = (length xs ≡ length low) × ¬ Between d low high xs
 Matches (other run) xs = (length xs ≡ length run) × (xs ≢ run)
 Matches (gap least most) xs = (least ≤ length xs) × AtMost most (length xs)
 
@@ -62,7 +62,7 @@ Cut (i ∷ is) xs = (front : List ℕ) × (rest : List ℕ) × (xs ≡ front ++ 
 abbrev pub Allowed : Reference → ℕ → ℕ → ℕ → ℕ → Type 0
 Allowed Front lo hi before after = (lo ≤ before) × (before ≤ hi)
 Allowed Back lo hi before after = (lo ≤ after) × (after ≤ hi)
-Allowed Anywhere lo hi before after = Unit {0}
+Allowed Anywhere lo hi before after = ⊤
 
 -- A placement: a stretch of the reading that the items cut, and what stands before and after it.
 pub record Placement (r : Reference) (lo hi : ℕ) (items : List Item) (xs : List ℕ) : Type 0 where

@@ -1,5 +1,5 @@
 -- A reader of pattern texts that computes, character by character. Theorems tie it to the grammar.
-use Rattle.std.specs.Prelude.{◌≡◌, ℕ, zero, suc, ◌+◌, ◌-◌, ◌*◌, Bool, true, false, cond, not, ◌&&◌, List, [], ◌∷◌, ◌++◌, length, is_some, Some, None, Ok, Err, Option, Result, ◌==◌, nat_lt}
+use Rattle.std.specs.Prelude.{◌≡◌, ℕ, zero, suc, ◌+◌, ◌-◌, ◌*◌, Bool, true, false, if◌then◌else◌, not, ◌&&◌, List, [], ◌∷◌, ◌++◌, length, is_some, Some, None, Ok, Err, Option, Result, ◌==◌, nat_lt}
 use Rattle.kinds.specs.Alphabet.{Alphabet, within}
 use Rattle.kinds.specs.Grammar.{Placed, Position, start, gap_allowed, may_end, behind, Text, Longest}
 use Rattle.kinds.specs.Patterns.{Item, literal, any, group, range, other, gap}
@@ -40,7 +40,7 @@ pub data Next : Type 0 where
 -- a test passes at some number below another
 unfoldable pub some_below : (ℕ → Bool) → ℕ → Bool
 some_below p zero = false
-some_below p (suc n) = cond (p n) true (some_below p n)
+some_below p (suc n) = if p n then true else some_below p n
 
 abbrev pub begun : List ℕ → Bool
 begun cs = nat_lt 0 (length cs)
@@ -84,30 +84,30 @@ module _ {E : Type 0} (a : Alphabet E) where
 
   abbrev pub next : State → ℕ → Next
   next (between p) c =
-      cond (c == 63) (goes_on asked)
-      (cond (c == 40) (goes_on (alternatives [] []))
-      (cond (c == 91) (goes_on bracket)
-      (cond (c == 42) (only_if (gap_allowed p) (complete (gap 0 None)))
-      (cond (c == 123) (only_if (gap_allowed p) (goes_on (digits least 0 0)))
-      (pair_in (between p) c)))))
+      if c == 63 then goes_on asked
+      else if c == 40 then goes_on (alternatives [] [])
+      else if c == 91 then goes_on bracket
+      else if c == 42 then only_if (gap_allowed p) (complete (gap 0 None))
+      else if c == 123 then only_if (gap_allowed p) (goes_on (digits least 0 0))
+      else pair_in (between p) c
   next asked c = only_if (c == 63) (complete any)
   next (half s f) c = with_element s (a.named f c)
   next (alternatives runs run) c =
-      cond (c == 124) (only_if (begun run) (goes_on (alternatives (runs ++ run ∷ []) [])))
-      (cond (c == 41) (only_if (begun run && nat_lt 0 (length runs)) (complete (group (runs ++ run ∷ []))))
-      (pair_in (alternatives runs run) c))
-  next bracket c = cond (c == 33) (goes_on (low false [])) (pair_in bracket c)
+      if c == 124 then only_if (begun run) (goes_on (alternatives (runs ++ run ∷ []) []))
+      else if c == 41 then only_if (begun run && nat_lt 0 (length runs)) (complete (group (runs ++ run ∷ [])))
+      else pair_in (alternatives runs run) c
+  next bracket c = if c == 33 then goes_on (low false []) else pair_in bracket c
   next (low inside run) c =
-      cond (c == 58) (only_if (begun run) (goes_on (high inside run [])))
-      (cond (c == 93) (only_if (begun run && not inside) (complete (other run)))
-      (pair_in (low inside run) c))
+      if c == 58 then only_if (begun run) (goes_on (high inside run []))
+      else if c == 93 then only_if (begun run && not inside) (complete (other run))
+      else pair_in (low inside run) c
   next (high inside first run) c =
-      cond (c == 93) (only_if (begun run) (complete (range FirstOn inside first run)))
-      (pair_in (high inside first run) c)
+      if c == 93 then only_if (begun run) (complete (range FirstOn inside first run))
+      else pair_in (high inside first run) c
   next (digits n k v) c =
-      cond (within 48 57 c) (only_if (nat_lt k 4) (goes_on (digits n (suc k) (10 * v + (c - 48)))))
-      (cond (c == 125) (only_if (nat_lt 0 k) (complete (closed n v)))
-      (behind_digits n k v c))
+      if within 48 57 c then only_if (nat_lt k 4) (goes_on (digits n (suc k) (10 * v + (c - 48))))
+      else if c == 125 then only_if (nat_lt 0 k) (complete (closed n v))
+      else behind_digits n k v c
   next (endless m) c = only_if (c == 125) (complete (gap m None))
 
   abbrev pub finished : State → Bool
@@ -128,7 +128,7 @@ module _ {E : Type 0} (a : Alphabet E) where
   -- The rest of a text, in a state, with the place where the item began and the place of the rest: its items, or the
   -- place of the first character that cannot stand, which is the end of the text where more was to come.
   abbrev pub follow : State → ℕ → ℕ → List ℕ → Result (List Placed) ℕ
-  follow s from place [] = cond (finished s) (Ok []) (Err place)
+  follow s from place [] = if finished s then Ok [] else Err place
   follow s from place (c ∷ t) =
       elim (next s c) [
         | stuck ↦ Err place

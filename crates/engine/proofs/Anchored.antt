@@ -1,56 +1,16 @@
 -- The anchor of a compiled fragment among the items of its pattern: its codes, and what stands before and behind it.
-use Rattle.std.proofs.Common.{◌≡◌, ℕ, zero, suc, ◌+◌, ◌-◌, ◌<◌, ◌≤◌, List, [], ◌∷◌, ◌++◌, length, get_or, take, drop, Some, None, sym, refl, ap, ◌∙◌, ap₂, arith, length-append, length-drop, length-take}
-use Rattle.std.proofs.lemmas.List.{append_assoc, take-append-drop, take-take, take_at, drop_at, drop-drop, drop-take, take_more, take_all, append-nil}
+use Rattle.std.proofs.Common.{◌≡◌, ℕ, zero, suc, ◌+◌, ◌-◌, ◌≤◌, List, [], ◌∷◌, ◌++◌, length, take, drop, vec_len, sym, refl, ap, ◌∙◌, ap₂, arith, length-append, length-drop, length-take}
+use Rattle.std.proofs.lemmas.List.{append_assoc, take-append-drop, take-take, take_at, drop_at, drop-drop, drop-take, take_all}
 use Rattle.kinds.specs.Fragments as spec
 use Rattle.kinds.specs.Fragments.{Anchor, anchor, bodies, mirrored_placed}
 use Rattle.kinds.specs.Grammar.{Placed}
-use Rattle.kinds.specs.Patterns.{Item, literal, any, group, range, other, gap, mirrored, mirrored_item}
+use Rattle.kinds.specs.Patterns.{mirrored, mirrored_item}
 use Rattle.kinds.specs.declared.pattern.Reference.{Reference}
 use Rattle.kinds.proofs.Anchors.{anchor_splits, small_parts}
 use Rattle.kinds.proofs.Backs.{bodies_mirrored, mirrored_placed_append}
-use Rattle.engine.specs.Compiled.{literal_codes}
-use Rattle.engine.specs.Compiling.{part_items}
 use Rattle.engine.specs.Finding.{part_of, Sides}
 use Rattle.engine.specs.Searched.{Searched}
-use Rattle.engine.specs.Stored.{item_of, items}
 use Rattle.engine.specs.declared.fragment.Fragment.{Fragment}
-use Rattle.engine.specs.declared.part.Part.TheVariants as part
-use Rattle.engine.specs.declared.part.PlacedPart.{PlacedPart}
-use Rattle.engine.specs.declared.run.Run.{Run}
-use Rattle.engine.proofs.Assembling.{items_between}
-use Rattle.engine.proofs.Reaching.{bodies_append}
-use Rattle.engine.proofs.Shifting.{no_code}
-
--- Codes of literals, one part more at a time.
-
--- the codes of two lists of items
-codes_append : (is js : List Item) → literal_codes (is ++ js) ≡ literal_codes is ++ literal_codes js
-codes_append [] js = refl
-codes_append (literal c ∷ is) js = ap (λ cs. c ∷ cs) (codes_append is js)
-codes_append (any ∷ is) js = codes_append is js
-codes_append (group runs ∷ is) js = codes_append is js
-codes_append (range d inside low high ∷ is) js = codes_append is js
-codes_append (other run ∷ is) js = codes_append is js
-codes_append (gap m n ∷ is) js = codes_append is js
-
-module _ (codes : List ℕ) (runs : List Run) (ps : List PlacedPart) (i : ℕ) (d : PlacedPart) (inside : i < length ps) where
-  -- the codes with the next part's
-  codes_next : literal_codes (part_items codes runs (take (i + 1) ps)) ≡ literal_codes (part_items codes runs (take i ps)) ++ literal_codes (item_of codes runs (get_or ps i d).part ∷ [])
-  codes_next =
-      ap (λ l. literal_codes (part_items codes runs l)) (take_more ps i d inside)
-      ∙ ap literal_codes (bodies_append codes runs (take i ps) (get_or ps i d ∷ []))
-      ∙ codes_append (part_items codes runs (take i ps)) (item_of codes runs (get_or ps i d).part ∷ [])
-
-  -- a literal has one more
-  pub codes_literal : (c : ℕ) → (get_or ps i d).part ≡ part.Literal c → literal_codes (part_items codes runs (take (i + 1) ps)) ≡ literal_codes (part_items codes runs (take i ps)) ++ c ∷ []
-  codes_literal c is = codes_next ∙ ap (λ q. literal_codes (part_items codes runs (take i ps)) ++ literal_codes (item_of codes runs q ∷ [])) is
-
-  -- another part has none
-  pub codes_other : ((c : ℕ) → (get_or ps i d).part ≡ part.Literal c → ⊥) → literal_codes (part_items codes runs (take (i + 1) ps)) ≡ literal_codes (part_items codes runs (take i ps))
-  codes_other none =
-      codes_next
-      ∙ ap (λ o. literal_codes (part_items codes runs (take i ps)) ++ elim o [ Some c ↦ c ∷ [] | None ↦ [] ]) (no_code codes runs (get_or ps i d).part none)
-      ∙ append-nil (literal_codes (part_items codes runs (take i ps)))
 
 -- Parts of items.
 
@@ -117,6 +77,10 @@ module _ (r : Reference) (qs mirror : List Placed) (f : Fragment) (g : spec.Frag
   abbrev pub a : Anchor
   a = anchor r (bodies g.body)
 
+  -- it has as many codes as the compiled fragment
+  pub codes_long : vec_len f.codes ≡ length a.codes
+  codes_long = f.codes.ok.0 ∙ ap length s.holds.codes
+
   -- a part of the fragment's items is one of the pattern's
   part_is : (from to : ℕ) → f.first ≤ from → from ≤ to → to ≤ f.end → take (to - from) (drop (from - f.first) (bodies g.body)) ≡ part_of qs from to
   part_is from to a b c =
@@ -134,31 +98,12 @@ module _ (r : Reference) (qs mirror : List Placed) (f : Fragment) (g : spec.Frag
       ∙ ap (λ n. take (f.anchor - f.first) (drop n (bodies g.body))) (sym none)
       ∙ part_is f.first f.anchor (omega arith) ordered.0 (omega arith)
 
-  -- its codes
-  codes_are : literal_codes (part_of qs f.anchor (f.anchor + f.len)) ≡ a.codes
-  codes_are =
-      let many : f.anchor + f.len - f.anchor ≡ f.len = omega arith in
-      let ordered = s.holds.ordered in
-      sym
-      (ap (λ (x : Anchor). x.codes) s.holds.anchored
-      ∙ ap (λ n. literal_codes (take n (drop (f.anchor - f.first) (bodies g.body)))) (sym many)
-      ∙ ap literal_codes (part_is f.anchor (f.anchor + f.len) ordered.0 (omega arith) ordered.1))
-
-  -- those of the parts that the pattern stores
-  pub codes_stored : (codes : List ℕ) (runs : List Run) (ps slice : List PlacedPart) → qs ≡ items codes runs ps → slice ≡ ps
-      → literal_codes (part_items codes runs (take (f.anchor + f.len - f.anchor) (drop f.anchor slice))) ≡ a.codes
-  codes_stored codes runs ps slice stored same =
-      ap (λ l. literal_codes (part_items codes runs (take (f.anchor + f.len - f.anchor) (drop f.anchor l)))) same
-      ∙ ap (λ l. literal_codes (bodies l)) (items_between codes runs ps f.anchor (f.anchor + f.len - f.anchor))
-      ∙ ap (λ l. literal_codes (part_of l f.anchor (f.anchor + f.len))) (sym stored)
-      ∙ codes_are
-
   -- what stands behind it
-  back_is : a.back ≡ part_of qs (f.anchor + f.len) f.end
+  back_is : a.back ≡ part_of qs (f.anchor + vec_len f.codes) f.end
   back_is =
       let ordered = s.holds.ordered in
-      let from = f.anchor + f.len in
-      let at : f.anchor - f.first + f.len ≡ from - f.first = omega arith in
+      let from = f.anchor + vec_len f.codes in
+      let at : f.anchor - f.first + vec_len f.codes ≡ from - f.first = omega arith in
       let size : length (drop (from - f.first) (bodies g.body)) ≤ f.end - from =
       omega (arith, length-drop (from - f.first) (bodies g.body), bodies_length g.body, ap length s.holds.body, length-take (f.end - f.first) (drop f.first qs)) in
       ap (λ (x : Anchor). x.back) s.holds.anchored
@@ -179,8 +124,8 @@ module _ (r : Reference) (qs mirror : List Placed) (f : Fragment) (g : spec.Frag
             ∙ ap bodies turned
             ∙ bodies_mirrored (take (f.anchor - f.first) (drop f.first qs))
             ∙ ap mirrored (sym front_is);
-        len = s.holds.len;
-        some = omega (arith, s.coded, s.holds.len);
+        len = codes_long;
+        some = omega (arith, s.coded, codes_long);
         behind = sym back_is;
         small = small_parts (bodies g.body) a (anchor_splits r (bodies g.body)) s.small;
       }

@@ -1,14 +1,15 @@
 -- Compiled fragments, one by one and together.
-use Rattle.std.proofs.Common.{◌≡◌, ℕ, ◌+◌, ◌-◌, ◌<◌, ◌≤◌, List, [], ◌∷◌, ◌++◌, length, take, drop, Some, None, vec_items, Option, sym, refl, ap, ◌∙◌, subst, arith, length-drop, length-take}
+use Rattle.std.proofs.Common.{◌≡◌, ℕ, ◌+◌, ◌-◌, ◌<◌, ◌≤◌, List, [], ◌∷◌, ◌++◌, length, take, drop, Some, None, vec_items, vec_len, Option, sym, refl, ap, ◌∙◌, subst, arith, length-drop, length-take}
 use lib.ListN.{length-map}
 use Rattle.std.proofs.lemmas.List.{append_assoc, drop-drop, take-map, drop-map, take_rest}
+use Rattle.std.specs.Global.{Vec}
 use Rattle.kinds.specs.Fragments as spec
 use Rattle.kinds.specs.Fragments.{Anchor, anchor, bodies, cut_from, sum_least, lead, shift}
 use Rattle.kinds.specs.Grammar.{Placed}
 use Rattle.kinds.specs.Patterns.{Item}
 use Rattle.kinds.specs.declared.pattern.Reference.{Reference}
 use Rattle.engine.specs.Compiled.{literal_codes, anchor_at, Holds, Hold}
-use Rattle.engine.specs.Compiling.{part_items, Anchors, Shifts, Cuts}
+use Rattle.engine.specs.Compiling.{part_codes, part_items, Anchors, Shifts, Cuts}
 use Rattle.engine.specs.Reading.{held}
 use Rattle.engine.specs.Stored.{items, placed_of}
 use Rattle.engine.specs.declared.compile.Cut.{Cut}
@@ -16,7 +17,7 @@ use Rattle.engine.specs.declared.fragment.Fragment.{Fragment}
 use Rattle.engine.specs.declared.part.PlacedPart.{PlacedPart}
 use Rattle.engine.specs.declared.pattern.Pattern.{Pattern}
 use Rattle.engine.specs.declared.run.Run.{Run}
-use Rattle.engine.proofs.Bodies.{part_items_length, part_items_take, part_items_drop}
+use Rattle.engine.proofs.Bodies.{part_codes_are, part_items_length, part_items_take, part_items_drop}
 
 module _ (codes : List ℕ) (runs : List Run) (ps : List PlacedPart) where
   -- the items of the parts from one place to another
@@ -59,16 +60,16 @@ module _ (codes : List ℕ) (runs : List Run) (ps : List PlacedPart) where
     anchor_within = let h = found.literals.inside in let long = body_length in omega arith
 
     -- a fragment that is put together from its numbers
-    pub assembled : (gap n : ℕ) (table : List ℕ)
-        → n ≡ sum_least (part_items codes runs (take (start - 0) (drop 0 body)))
+    pub assembled : (gap n : ℕ) (stored : Vec ℕ) (table : List ℕ)
+        → n ≡ sum_least (part_items codes runs (take start body))
+        → vec_items stored ≡ part_codes (take (start + len - start) (drop start body))
         → (length (literal_codes (part_items codes runs (take (start + len - start) (drop start body)))) ≡ length (take (start + len - start) (drop start body))
         → Shifts table (literal_codes (part_items codes runs (take (start + len - start) (drop start body)))))
-        → Holds r (items codes runs ps) (record { first = first; end = end; anchor = first + start; len = len; gap = gap; lead = n; shifts = table }) (g gap)
-    assembled gap n table n_is table_is =
+        → Holds r (items codes runs ps) (record { first = first; end = end; anchor = first + start; codes = stored; gap = gap; lead = n; shifts = table }) (g gap)
+    assembled gap n stored table n_is stored_is table_is =
         let moved : first + start - first ≡ start = omega arith in
         let at : anchor r (bodies (g gap).body) ≡ anchor_at is start len = ap (anchor r) (sym (same gap)) ∙ found.anchored in
         let whole : start + len - start ≡ len = omega arith in
-        let zero_start : start - 0 ≡ start = omega arith in
         let long = body_length in
         let counted = part_items_length codes runs body in
         let fits = found.literals.inside in
@@ -78,13 +79,15 @@ module _ (codes : List ℕ) (runs : List Run) (ps : List PlacedPart) where
         let taken = length-take (start + len - start) (drop start body) in
         let left = length-drop start body in
         omega arith in
+        let kept : vec_items stored ≡ literal_codes (take len (drop start is)) = stored_is ∙ part_codes_are codes runs (take (start + len - start) (drop start body)) ∙ ap literal_codes literals in
+        let many : vec_len stored ≡ len = stored.ok.0 ∙ ap length kept ∙ found.literals.all in
         record {
-          ordered = (omega arith, anchor_within, simp length-map inside);
+          ordered = (omega arith, omega (arith, anchor_within), simp length-map inside);
           body = refl;
           break = refl;
-          anchored = ap (anchor r) (sym (same gap)) ∙ found.anchored ∙ ap (λ xs. anchor_at xs start len) (same gap) ∙ ap (λ k. anchor_at (bodies (g gap).body) k len) (sym moved);
-          len = sym (ap (λ (a : Anchor). length a.codes) at ∙ found.literals.all);
-          leads = n_is ∙ ap sum_least (part_items_take codes runs (start - 0) body ∙ ap (λ k. take k is) zero_start) ∙ sym (ap lead at);
+          anchored = ap (anchor r) (sym (same gap)) ∙ found.anchored ∙ (λ k. anchor_at (same gap k) (sym moved k) (sym many k));
+          codes = kept ∙ sym (ap (λ (a : Anchor). a.codes) at);
+          leads = n_is ∙ ap sum_least (part_items_take codes runs start body) ∙ sym (ap lead at);
           shifts = λ index h. table_is (ap (λ xs. length (literal_codes xs)) literals ∙ found.literals.all ∙ sym as_long) index h
               ∙ ap (λ xs. shift (literal_codes xs) index) literals ∙ sym (ap (λ (a : Anchor). shift a.codes index) at);
         }

@@ -1,9 +1,14 @@
 -- Parts of lists, the items of stored parts, and those of some of them.
-use Rattle.std.proofs.Common.{◌≡◌, ℕ, zero, suc, ◌+◌, ◌-◌, ◌<◌, ◌≤◌, List, [], ◌∷◌, ◌++◌, length, get_or, take, drop, refl, ap, ◌∙◌, suc-le-suc, arith, length-drop}
+use Rattle.std.proofs.Common.{◌≡◌, ℕ, zero, suc, ◌+◌, ◌-◌, ◌<◌, ◌≤◌, List, [], ◌∷◌, ◌++◌, length, get_or, take, drop, Some, None, Option, refl, ap, ◌∙◌, suc-le-suc, arith, length-drop}
 use Rattle.std.proofs.lemmas.List.{take_more, get_or-drop}
+use Rattle.std.specs.List.{cons_option}
+use Rattle.kinds.specs.Fragments.{literal_code}
 use Rattle.kinds.specs.Patterns.{any}
-use Rattle.engine.specs.Compiling.{part_items}
+use Rattle.engine.specs.Compiled.{literal_codes}
+use Rattle.engine.specs.Compiling.{part_code, part_codes, part_items}
 use Rattle.engine.specs.Stored.{item_of}
+use Rattle.engine.specs.declared.part.Part.{Part}
+use Rattle.engine.specs.declared.part.Part.TheVariants as part
 use Rattle.engine.specs.declared.part.PlacedPart.{PlacedPart}
 use Rattle.engine.specs.declared.run.Run.{Run}
 
@@ -39,3 +44,21 @@ pub part_items_drop : (codes : List ℕ) (runs : List Run) (n : ℕ) (ps : List 
 part_items_drop codes runs zero ps = refl
 part_items_drop codes runs (suc n) [] = refl
 part_items_drop codes runs (suc n) (p ∷ ps) = part_items_drop codes runs n ps
+
+-- the code of a literal is that of the part's item
+part_code_is : (codes : List ℕ) (runs : List Run) (p : Part) → part_code p ≡ literal_code (item_of codes runs p)
+part_code_is codes runs (part.Literal c) = refl
+part_code_is codes runs part.Any = refl
+part_code_is codes runs (part.Group first count) = refl
+part_code_is codes runs (part.Range d inside low high) = refl
+part_code_is codes runs (part.Other run) = refl
+part_code_is codes runs (part.Gap g) = refl
+
+-- so the codes of the literals among parts are those of their items
+pub part_codes_are : (codes : List ℕ) (runs : List Run) (ps : List PlacedPart) → part_codes ps ≡ literal_codes (part_items codes runs ps)
+part_codes_are codes runs [] = refl
+part_codes_are codes runs (p ∷ ps) = (λ k. cons_option (part_code_is codes runs p.part k) (part_codes_are codes runs ps k)) ∙ joined (literal_code (item_of codes runs p.part)) (literal_codes (part_items codes runs ps))
+  where
+    joined : (o : Option ℕ) (cs : List ℕ) → cons_option o cs ≡ elim o [ Some c ↦ c ∷ cs | None ↦ cs ]
+    joined (Some c) cs = refl
+    joined None cs = refl

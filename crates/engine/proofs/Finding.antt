@@ -1,5 +1,5 @@
 -- The least end through one place of an anchor, from the rows of what is reached on both sides of it.
-use Rattle.std.proofs.Common.{◌≡◌, ℕ, ◌+◌, ◌-◌, ◌<◌, ◌≤◌, true, ◌&&◌, ltb, leb, List, reverse, length, take, drop, Some, None, Decides, Option, sym, ap, ◌∙◌, subst, ap₂, ⊎_elim, arith}
+use Rattle.std.proofs.Common.{◌≡◌, ℕ, ◌+◌, ◌-◌, ◌<◌, ◌≤◌, true, ◌&&◌, ltb, leb, List, reverse, length, take, drop, Some, None, vec_items, vec_len, Decides, Option, sym, ap, ◌∙◌, subst, ap₂, ⊎_elim, arith}
 use Rattle.std.specs.List.{AllByRecursion as All}
 use Rattle.std.proofs.lemmas.Bool.{both_ways, leb-true, le-leb, lt-ltb, and_parts, cases_lt}
 use Rattle.kinds.specs.Fragments.{Anchor}
@@ -114,7 +114,7 @@ module _ (back : List Item) (xs : List ℕ) (b : ℕ) (row : Row) (within : b �
 module _ (qs mirror : List Placed) (f : Fragment) (a : Anchor) (sides : Sides qs mirror f a) (xs : List ℕ) (p : ℕ)
     (stands : stands_at a.codes xs p ≡ true) (from : ℕ) (until : Option ℕ) where
   -- the anchor lies in the list
-  pub anchor_inside : p + f.len ≤ length xs
+  pub anchor_inside : p + vec_len f.codes ≤ length xs
   anchor_inside = omega (arith, ((stands_decides a.codes xs p).0 stands).0, sides.len)
 
   -- so does its place
@@ -131,12 +131,12 @@ module _ (qs mirror : List Placed) (f : Fragment) (a : Anchor) (sides : Sides qs
   before row m n d e = subst (λ is. Reached is (reverse (take p xs)) row) (ap₂ (part_of mirror) d e ∙ sides.before)
 
   -- a row of the items from behind the anchor on is one of what stands there
-  behind : (row : Row) (b : ℕ) → b ≡ p + f.len
-      → Reached (part_of qs (f.anchor + f.len) f.end) (drop b xs) row → Reached a.back (drop (p + length a.codes) xs) row
+  behind : (row : Row) (b : ℕ) → b ≡ p + vec_len f.codes
+      → Reached (part_of qs (f.anchor + vec_len f.codes) f.end) (drop b xs) row → Reached a.back (drop (p + length a.codes) xs) row
   behind row b d h =
       let there : b ≡ p + length a.codes = d ∙ ap (λ n. p + n) sides.len in
       subst (λ is. Reached is (drop (p + length a.codes) xs) row) sides.behind
-      (subst (λ n. Reached (part_of qs (f.anchor + f.len) f.end) (drop n xs) row) there h)
+      (subst (λ n. Reached (part_of qs (f.anchor + vec_len f.codes) f.end) (drop n xs) row) there h)
 
   -- what stands before the anchor is short
   front_short : sum_span a.front < 1024
@@ -153,15 +153,15 @@ module _ (qs mirror : List Placed) (f : Fragment) (a : Anchor) (sides : Sides qs
       λ end h. none (ends_start a.front xs p from until row place_inside (before row m n d e reached) sides.small.front_bounded front_short h.before)
 
   -- where nothing is reached behind it, neither
-  pub through_no_end : (row : Row) (b : ℕ) → b ≡ p + f.len
-      → Reached (part_of qs (f.anchor + f.len) f.end) (drop b xs) row → NoneFrom row 0 → LeastThrough a from until xs p None
+  pub through_no_end : (row : Row) (b : ℕ) → b ≡ p + vec_len f.codes
+      → Reached (part_of qs (f.anchor + vec_len f.codes) f.end) (drop b xs) row → NoneFrom row 0 → LeastThrough a from until xs p None
   through_no_end row b d reached none =
       λ end h. none_spans a.back xs (p + length a.codes) row end_inside (behind row b d reached) sides.small.back_bounded back_short none end h.behind
 
   -- else the first member of the row behind it gives the least end
-  pub through_first : (left right : Row) (m n b k : ℕ) → m ≡ length mirror - f.anchor → n ≡ length mirror - f.first → b ≡ p + f.len
+  pub through_first : (left right : Row) (m n b k : ℕ) → m ≡ length mirror - f.anchor → n ≡ length mirror - f.first → b ≡ p + vec_len f.codes
       → Reached (part_of mirror m n) (reverse (take p xs)) left → Start left p from until
-      → Reached (part_of qs (f.anchor + f.len) f.end) (drop b xs) right → FirstFrom right 0 k
+      → Reached (part_of qs (f.anchor + vec_len f.codes) f.end) (drop b xs) right → FirstFrom right 0 k
       → (end : ℕ) → end ≡ b + k → LeastThrough a from until xs p (Some end)
   through_first left right m n b k d e d' reached start reached' first end is =
       let right_of = behind right b d' reached' in

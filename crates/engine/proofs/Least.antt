@@ -1,5 +1,5 @@
 -- The least end of a fragment's placement, from one place where its anchor stands to the next.
-use Rattle.std.proofs.Common.{◌≡◌, ℕ, ◌+◌, ◌<◌, ◌≤◌, min, true, leb, ◌⊎◌, List, length, Some, None, Option, sym, ap, ◌∙◌, subst, ⊎_elim, arith}
+use Rattle.std.proofs.Common.{◌≡◌, ℕ, ◌+◌, ◌<◌, ◌≤◌, min, true, leb, ◌⊎◌, List, length, Some, None, vec_items, vec_len, Option, sym, ap, ◌∙◌, subst, ⊎_elim, arith}
 use Rattle.std.proofs.lemmas.Bool.{cases_lt, cond_both, leb-false}
 use Rattle.kinds.specs.Fragments as spec
 use Rattle.kinds.specs.Fragments.{Anchor, anchor, bodies}
@@ -14,7 +14,7 @@ use Rattle.engine.specs.Codes.{not_past, ShiftsOf}
 use Rattle.engine.specs.Finding.{smaller_of, Bounds, LeastThrough}
 use Rattle.engine.specs.Searched.{Searched}
 use Rattle.engine.specs.declared.fragment.Fragment.{Fragment}
-use Rattle.engine.proofs.Anchored.{sides_of}
+use Rattle.engine.proofs.Anchored.{codes_long, sides_of}
 
 -- the least end through the places of an anchor before one, or none, where no place past the last one gives a smaller end
 pub record Best (a : Anchor) (from : ℕ) (until : Option ℕ) (xs : List ℕ) (place last : ℕ) (best : Option ℕ) : Type 0 where
@@ -69,7 +69,7 @@ module _ (r : Reference) (qs mirror : List Placed) (f : Fragment) (g : spec.Frag
 
   -- the fragment's bounds are in order
   pub bounds_of : (count : ℕ) → length qs ≡ count → Bounds count f
-  bounds_of count e = record { before = s.holds.ordered.0; behind = s.holds.ordered.1; inside = omega (arith, s.holds.ordered.2); short = omega (arith, (sides_of r qs mirror f g s).small.short, s.holds.len) }
+  bounds_of count e = record { before = s.holds.ordered.0; behind = s.holds.ordered.1; inside = omega (arith, s.holds.ordered.2) }
 
   -- what stands before the anchor spans less than a row
   before_near : (q e : ℕ) → Anchored a.front a.codes a.back from until xs q e → (start : ℕ) × AtMost until start × (q < start + 1024) × (q ≤ length xs)
@@ -97,10 +97,11 @@ module _ (r : Reference) (qs mirror : List Placed) (f : Fragment) (g : spec.Frag
       best_all a.front a.codes a.back from until xs (bodies g.body) (anchor_splits r (bodies g.body)) (from + f.lead) None
       (λ q l y. omega (arith, ((stands_decides a.codes xs q).0 y).0)) (best_none a.front a.codes a.back from until xs (from + f.lead) (omega (arith, s.holds.leads)))
 
-  module _ (codes : List ℕ) (same : codes ≡ a.codes) (place last : ℕ) (fit : Option ℕ) (found : ShiftsOf f.shifts codes → fit ≡ not_past last (first_fit codes xs place)) where
+  module _ (codes : List ℕ) (stored : codes ≡ vec_items f.codes) (place last : ℕ) (fit : Option ℕ) (found : ShiftsOf f.shifts codes → fit ≡ not_past last (first_fit codes xs place)) where
     -- the next place of the anchor
     next_place : NextFit a.codes xs place last fit
     next_place =
+        let same : codes ≡ a.codes = stored ∙ s.holds.codes in
         let table : ShiftsOf f.shifts codes = subst (ShiftsOf f.shifts) (sym same) s.holds.shifts in
         subst (NextFit a.codes xs place last) (sym (found table ∙ ap (λ cs. not_past last (first_fit cs xs place)) same))
         (next_within a.codes xs place last (first_fit a.codes xs place) (first_fit_exactly a.codes xs place))
@@ -129,7 +130,7 @@ module _ (r : Reference) (qs mirror : List Placed) (f : Fragment) (g : spec.Frag
 
       -- with the least end through it, the best so far is that before the place behind it
       pub best_next : (best end new : Option ℕ) (next last' : ℕ) → (stands_at a.codes xs p ≡ true → LeastThrough a from until xs p end)
-          → new ≡ smaller_of best end → next ≡ p + 1 → ((q : ℕ) → last' < q → (last < q) ⊎ NoLess new (q + f.len))
+          → new ≡ smaller_of best end → next ≡ p + 1 → ((q : ℕ) → last' < q → (last < q) ⊎ NoLess new (q + vec_len f.codes))
           → Best a from until xs place last best → Best a from until xs next last' new
       best_next best end new next last' least is_new is_next narrow h =
           let on = best_on a.front a.codes a.back from until xs place p best first.0 first.2 h.before in
@@ -138,6 +139,6 @@ module _ (r : Reference) (qs mirror : List Placed) (f : Fragment) (g : spec.Frag
             beyond = λ q e past x.
                 ⊎_elim
                 (λ far. rw is_new (no_less_smaller best end e (h.beyond q e far x)))
-                (λ no_less. no_less_more new (q + f.len) e (omega (arith, x.behind.ordered, s.holds.len)) no_less)
+                (λ no_less. no_less_more new (q + vec_len f.codes) e (omega (arith, x.behind.ordered, codes_long r qs mirror f g s)) no_less)
                 (narrow q past);
           }

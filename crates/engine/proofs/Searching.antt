@@ -1,5 +1,5 @@
 -- The search for fragments, one behind the other.
-use Rattle.std.proofs.Common.{◌≡◌, ℕ, zero, suc, ◌+◌, ◌^◌, ◌<◌, ◌≤◌, true, false, List, [], ◌∷◌, ◌++◌, map, reverse, length, get_or, drop, Some, None, Option, sym, refl, ap, ◌∙◌, ⊎_elim, arith}
+use Rattle.std.proofs.Common.{◌≡◌, ℕ, zero, suc, ◌+◌, ◌^◌, ◌<◌, ◌≤◌, true, false, List, [], ◌∷◌, ◌++◌, map, reverse, length, get_or, drop, Some, None, Option, sym, refl, ap, ◌∙◌, subst, ⊎_elim, arith}
 use mathlib.Core.List.{map-append, reverse-cons}
 use Rattle.std.proofs.lemmas.Bool.{cases_lt}
 use Rattle.kinds.specs.Fragments as spec
@@ -43,12 +43,12 @@ module _ (r : Reference) (items mirror : List Placed) where
   searched_all (f ∷ fs) (g ∷ gs) (suc i) h n = searched_all fs gs i h.1 (omega arith)
 
   -- the fragment that a compiled one is searched for stands at its place
-  searched_at : (fs : List Fragment) (gs : List spec.Fragment) (i : ℕ) (d : Fragment) → AllSearched r items mirror fs gs → i < length fs
-      → (g : spec.Fragment) × (drop i gs ≡ g ∷ drop (suc i) gs) × Searched r items mirror (get_or fs i d) g
-  searched_at [] gs i d h n = absurd (omega arith)
-  searched_at (f ∷ fs) [] i d h n = absurd h
-  searched_at (f ∷ fs) (g ∷ gs) zero d h n = (g, refl, h.0)
-  searched_at (f ∷ fs) (g ∷ gs) (suc i) d h n = searched_at fs gs i d h.1 (omega arith)
+  searched_at : (fs : List Fragment) (gs : List spec.Fragment) (i : ℕ) (f : Fragment) → f ≡ get_or fs i f → AllSearched r items mirror fs gs → i < length fs
+      → (g : spec.Fragment) × (drop i gs ≡ g ∷ drop (suc i) gs) × Searched r items mirror f g
+  searched_at [] gs i f is h n = absurd (omega arith)
+  searched_at (x ∷ fs) [] i f is h n = absurd h
+  searched_at (x ∷ fs) (g ∷ gs) zero f is h n = (g, refl, subst (λ y. Searched r items mirror y g) (sym is) h.0)
+  searched_at (x ∷ fs) (g ∷ gs) (suc i) f is h n = searched_at fs gs i f is h.1 (omega arith)
 
 -- the answer of the search for a compiled fragment
 abbrev pub Least : List Placed → List Placed → Fragment → ℕ → Option ℕ → List ℕ → Option ℕ → Type 0
@@ -61,28 +61,28 @@ ComeTo items mirror fs at xs i end =
 
 module _ (items mirror : List Placed) (fs : List Fragment) (at : ℕ) (xs : List ℕ) (i end : ℕ) (so_far : ComeTo items mirror fs at xs i end) where
   -- it ends where the fragment is not found
-  pub come_none : (d : Fragment) → i < length fs → Least items mirror (get_or fs i d) (end + (get_or fs i d).gap) None xs None
+  pub come_none : (f : Fragment) → f ≡ get_or fs i f → i < length fs → Least items mirror f (end + f.gap) None xs None
       → (ref : Reference) (gs : List spec.Fragment) → AllSearched ref items mirror fs gs → false ≡ found gs at None xs
-  come_none d inside none ref gs h =
-      let (g, there, s) = searched_at ref items mirror fs gs i d h inside in
+  come_none f is inside none ref gs h =
+      let (g, there, s) = searched_at ref items mirror fs gs i f is h inside in
       sym (
       so_far ref gs h ∙ ap (λ l. found l end None xs) there
       ∙ found_not g (drop (suc i) gs) end None xs (none ref g s ∙ ap (λ n. least_end (bodies g.body) (end + n) None xs) s.holds.break)
       )
 
   -- it ends where the fragment could only start at a place that no list has
-  pub come_past : (d : Fragment) → i < length fs → (end + (get_or fs i d).gap < 2 ^ 64 → ⊥) → length xs < 2 ^ 64
+  pub come_past : (f : Fragment) → f ≡ get_or fs i f → i < length fs → (end + f.gap < 2 ^ 64 → ⊥) → length xs < 2 ^ 64
       → (ref : Reference) (gs : List spec.Fragment) → AllSearched ref items mirror fs gs → false ≡ found gs at None xs
-  come_past d inside far few =
-      let from = end + (get_or fs i d).gap in
+  come_past f is inside far few =
+      let from = end + f.gap in
       let past : length xs < from = ⊎_elim (λ l. absurd (far l)) (λ l. omega arith) (cases_lt from (2 ^ 64)) in
-      come_none d inside (λ ref g s. least_end_past (bodies g.body) from None xs past)
+      come_none f is inside (λ ref g s. least_end_past (bodies g.body) from None xs past)
 
   -- it goes on where the fragment is found
-  pub come_next : (d : Fragment) (next : ℕ) → i < length fs → Least items mirror (get_or fs i d) (end + (get_or fs i d).gap) None xs (Some next)
+  pub come_next : (f : Fragment) (next : ℕ) → f ≡ get_or fs i f → i < length fs → Least items mirror f (end + f.gap) None xs (Some next)
       → ComeTo items mirror fs at xs (i + 1) next
-  come_next d next inside some ref gs h =
-      let (g, there, s) = searched_at ref items mirror fs gs i d h inside in
+  come_next f next is inside some ref gs h =
+      let (g, there, s) = searched_at ref items mirror fs gs i f is h inside in
       let one : suc i ≡ i + 1 = omega arith in
       so_far ref gs h ∙ ap (λ l. found l end None xs) there
       ∙ found_next g (drop (suc i) gs) end None xs next (some ref g s ∙ ap (λ n. least_end (bodies g.body) (end + n) None xs) s.holds.break)

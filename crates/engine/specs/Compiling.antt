@@ -1,5 +1,6 @@
 -- What the parts of the compiler answer.
 use Rattle.std.specs.Prelude.{◌≡◌, ℕ, ◌+◌, ◌<◌, ◌≤◌, Bool, ◌&&◌, List, [], ◌∷◌, length, take, drop, Some, None, Option, nat_le, nat_lt, slice_index}
+use Rattle.std.specs.List.{filter_map}
 use Rattle.kinds.specs.Fragments.{anchor, bodies, cut_from, shift}
 use Rattle.kinds.specs.Grammar.{Placed}
 use Rattle.kinds.specs.Patterns.{Item}
@@ -7,12 +8,23 @@ use Rattle.kinds.specs.declared.pattern.Reference.{Reference}
 use Rattle.kinds.specs.declared.pattern.Reference.TheVariants.{Front, Back, Anywhere}
 use Rattle.engine.specs.Compiled.{literal_codes, anchor_at}
 use Rattle.engine.specs.Stored.{items}
+use Rattle.engine.specs.declared.part.Part.{Part}
+use Rattle.engine.specs.declared.part.Part.TheVariants.{Literal}
 use Rattle.engine.specs.declared.part.PlacedPart.{PlacedPart}
 use Rattle.engine.specs.declared.run.Run.{Run}
 
 -- the items of parts, without their places
 abbrev pub part_items : List ℕ → List Run → List PlacedPart → List Item
 part_items codes runs parts = bodies (items codes runs parts)
+
+-- the code of a part that is a literal
+abbrev pub part_code : Part → Option ℕ
+part_code (Literal c) = Some c
+part_code _ = None
+
+-- the codes of the literals among parts
+abbrev pub part_codes : List PlacedPart → List ℕ
+part_codes parts = filter_map (λ (p : PlacedPart). part_code p.part) parts
 
 -- A run of literals among items, from a place on, of a length.
 pub record LiteralRun (is : List Item) (start len : ℕ) : Type 0 where

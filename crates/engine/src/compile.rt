@@ -1,7 +1,7 @@
 // Compiles a pattern: its fragments, their anchors, and the numbers of their search.
 ghost use Rattle.std.specs.Prelude.{◌≡◌, ℕ, ◌+◌, ◌-◌, ◌<◌, ◌≤◌, List, length, take, drop, if◌then◌else◌, IfOk};
 ghost use Rattle.engine.specs.Compiled.{literal_codes, Holds, Hold};
-ghost use Rattle.engine.specs.Compiling.{part_items, replaces, Anchors, Shifts, Cuts};
+ghost use Rattle.engine.specs.Compiling.{part_codes, part_items, replaces, Anchors, Shifts, Cuts};
 ghost use Rattle.engine.specs.Reading.{held};
 ghost use Rattle.engine.specs.Parts.{items_in, HasParts};
 ghost use Rattle.engine.specs.Stored.{items as items_of};
@@ -129,8 +129,22 @@ fn cut_first(parts: &[PlacedPart]) -> Result<Cut, AllocError>
     Ok(Cut { end, next: None })
 }
 
+// The codes of the literals among parts.
+fn literal_codes(heap: Global, parts: &[PlacedPart]) -> Result<Vec<u16>, AllocError>
+    ensures { IfOk result (λ v. v.items ≡ part_codes parts.now) }
+{
+    parts
+        .iter()
+        .filter_map(|placed| match placed.part {
+            Part::Literal(code) => Some(code),
+            _ => None,
+        })
+        .collect(heap)
+}
+
 // The fragment whose body stands between two bounds, with the least number of elements before it.
 fn fragment_at(
+    heap: Global,
     pattern: &Pattern,
     reference: Reference,
     first: usize,
@@ -143,16 +157,15 @@ fn fragment_at(
     let parts = pattern.parts.as_slice();
     let body = &parts[first..end];
     let Literals { start, len } = anchor(body, reference);
-    let lead = lead(pattern, &body[0..start])?;
-    let shifts = shifts(&body[start..start + len])?;
+    let literals = &body[start..start + len];
     Ok(Fragment {
         first,
         end,
         anchor: first + start,
-        len,
+        codes: literal_codes(heap, literals)?,
         gap,
-        lead,
-        shifts,
+        lead: lead(pattern, &body[..start])?,
+        shifts: shifts(literals)?,
     })
 }
 
@@ -171,7 +184,7 @@ pub fn fragments_of(
     let mut gap = u64::from(lo);
     loop {
         let cut = cut_first(&parts[first..])?;
-        let fragment = fragment_at(pattern, reference, first, first + cut.end, gap)?;
+        let fragment = fragment_at(heap, pattern, reference, first, first + cut.end, gap)?;
         fragments.push(fragment)?;
         let Some((start, between)) = cut.next else {
             return Ok(fragments);

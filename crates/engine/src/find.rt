@@ -1,12 +1,9 @@
 // Finds the least end of a fragment's placements, from one place where its anchor stands to the next.
-ghost use Rattle.std.specs.Prelude.{◌≡◌, ℕ, ◌+◌, ◌<◌, ◌≤◌, true, ◌⊎◌, List, length, take, vec_len, Decides, MatchOption};
+ghost use Rattle.std.specs.Prelude.{◌≡◌, ℕ, ◌+◌, ◌<◌, ◌≤◌, true, ◌⊎◌, vec_len, Decides, MatchOption};
 ghost use Rattle.engine.specs.Codes.{codes_of};
-ghost use Rattle.engine.specs.Compiled.{literal_codes};
-ghost use Rattle.engine.specs.Compiling.{part_items};
 ghost use Rattle.engine.specs.Finding.{Bounds, LeastThrough, Sides, Start};
 ghost use Rattle.engine.specs.Reading.{held};
 ghost use Rattle.engine.specs.Searched.{Searched};
-ghost use Rattle.engine.specs.declared.run.Run.{Run};
 ghost use Rattle.kinds.specs.Spans.{NoLess};
 ghost use Rattle.kinds.specs.Fragments as spec;
 ghost use Rattle.kinds.specs.Fragments.{bodies, Anchor};
@@ -16,7 +13,6 @@ ghost use Rattle.kinds.specs.declared.pattern.Reference.{Reference};
 
 use crate::fragment::Fragment;
 use crate::lent::{BackFrom, OnFrom};
-use crate::part::{Part, PlacedPart};
 use crate::pattern::Pattern;
 use crate::reach::reach;
 use crate::scan::next_fit_up_to;
@@ -24,35 +20,24 @@ use crate::smaller::smaller;
 use kinds::reading::Reading;
 use rows::Row;
 
-// The most codes that an anchor has.
-const LONGEST: usize = 1024;
+// The most elements that a fragment spans.
+const LONGEST: u64 = 1024;
 
-// Whether a fragment's bounds are in order and lie in a pattern, and its anchor is not too long.
+// Whether a fragment's bounds are in order and lie in a pattern.
 fn is_bounded(pattern: &Pattern, fragment: &Fragment) -> bool
     ensures { Decides result (Bounds (vec_len pattern.now.parts) fragment.now) }
 {
     fragment.first <= fragment.anchor
         && fragment.anchor <= fragment.end
-        && fragment.len <= fragment.end - fragment.anchor
+        && fragment.codes.len() <= fragment.end - fragment.anchor
         && fragment.end <= pattern.parts.len()
-        && fragment.len <= LONGEST
 }
 
-// The codes of the literals among parts, and how many there are.
-fn literal_codes(parts: &[PlacedPart]) -> ([u16; LONGEST], usize)
-    requires { length parts.now ≤ 1024 }
-    ensures few { result.1 ≤ 1024 }
-    ensures codes { (codes : List ℕ) (runs : List Run) → take result.1 result.0 ≡ literal_codes (part_items codes runs parts.now) }
+// The place that stands so many elements behind another, if a reading can have it.
+fn place_behind(place: u64, distance: u64) -> Option<u32>
+    ensures { MatchOption result (4294967295 < place + distance) (λ behind. behind ≡ place + distance) }
 {
-    let mut codes = [0; LONGEST];
-    let mut len = 0;
-    for placed in parts {
-        if let Part::Literal(code) = placed.part {
-            codes[len] = code;
-            len += 1;
-        }
-    }
-    (codes, len)
+    u32::try_from(place.checked_add(distance)?).ok()
 }
 
 // Whether some member of a row, as a distance from a place back, leads to a start from `from` on and not past `until`.
@@ -95,23 +80,17 @@ fn end_through<R: Reading>(
     if !starts(&before, u64::from(place), from, until) {
         return None;
     }
-    let base = place.saturating_add(fragment.len as u32);
+    let len = fragment.codes.len();
+    let base = place_behind(u64::from(place), len as u64)?;
     let on = OnFrom {
         reading,
         start: base,
     };
-    let behind = reach(pattern, fragment.anchor + fragment.len, fragment.end, &on);
+    let behind = reach(pattern, fragment.anchor + len, fragment.end, &on);
     match behind.first_from(0) {
         Some(far) => Some(u64::from(base) + far as u64),
         None => None,
     }
-}
-
-// The first place where the anchor of a placement that starts from `from` on can stand, if a reading can have it.
-fn first_place(from: u64, lead: u64) -> Option<u32>
-    ensures { MatchOption result (4294967295 < from + lead) (λ place. place ≡ from + lead) }
-{
-    u32::try_from(from.checked_add(lead)?).ok()
 }
 
 // The last place where the anchor of a placement that starts not past `until` can stand in a reading.
@@ -119,7 +98,7 @@ fn last_place(until: Option<u64>) -> u32
     ensures { (start place : ℕ) → AtMost until start → place < start + 1024 → place ≤ 4294967295 → place ≤ result }
 {
     let last = match until {
-        Some(until) => until.saturating_add(LONGEST as u64),
+        Some(until) => until.saturating_add(LONGEST),
         None => u64::MAX,
     };
     last.min(u64::from(u32::MAX)) as u32
@@ -150,12 +129,11 @@ pub(crate) fn least_end<R: Reading>(
     if !is_bounded(pattern, fragment) {
         return None;
     }
-    let literals = &pattern.parts.as_slice()[fragment.anchor..fragment.anchor + fragment.len];
-    let (codes, len) = literal_codes(literals);
-    let mut place = first_place(from, fragment.lead)?;
+    let codes = fragment.codes.as_slice();
+    let mut place = place_behind(from, fragment.lead)?;
     let mut last = last_place(until);
     let mut best = None;
-    while let Some(fit) = next_fit_up_to(reading, &codes[..len], &fragment.shifts, place, last) {
+    while let Some(fit) = next_fit_up_to(reading, codes, &fragment.shifts, place, last) {
         if fit < place {
             return None;
         }
@@ -163,7 +141,7 @@ pub(crate) fn least_end<R: Reading>(
             best,
             end_through(pattern, mirror, fragment, reading, fit, from, until),
         );
-        last = last_useful(last, best, fragment.len);
+        last = last_useful(last, best, codes.len());
         place = fit.checked_add(1)?;
     }
     best

@@ -83,7 +83,7 @@ fn numbers_of(fragments: &[Fragment], number: usize, index: u8) -> Option<(u64, 
     Some((
         fragment.gap,
         fragment.lead,
-        fragment.len,
+        fragment.codes.len(),
         fragment.shifts[usize::from(index)],
     ))
 }

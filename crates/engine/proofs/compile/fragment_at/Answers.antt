@@ -12,7 +12,7 @@ lead-requires c =
     let n = c.args.end - first in
     let slice = c.as_slice-parts.result.now in
     let within = subst (λ ps. all_parts_within codes runs ps ≡ true) (sym c.as_slice-parts.ensures.value) c.args.pattern.now.parts_within in
-    parts_take_within codes runs (c.anchor-start.result.start - 0) (take n (drop first slice)) (parts_take_within codes runs n (drop first slice) (parts_drop_within codes runs first slice within))
+    parts_take_within codes runs c.anchor-start.result.start (take n (drop first slice)) (parts_take_within codes runs n (drop first slice) (parts_drop_within codes runs first slice within))
 
 pub returns : goal.returns
 returns c =
@@ -24,4 +24,4 @@ returns c =
     assembled codes runs (vec_items c.args.pattern.now.parts) c.args.reference first end c.requires.0 c.requires.1
     (take (end - first) (drop first slice)) (ap (λ ps. take (end - first) (drop first ps)) c.as_slice-parts.ensures.value)
     c.anchor-start.result.start c.anchor-start.result.len (c.anchor-start.ensures.anchored codes runs)
-    c.args.gap c.in_ok-lead.lead c.in_ok-shifts.shifts c.in_ok-lead.ensures (c.in_ok-shifts.ensures codes runs)
+    c.args.gap c.in_ok-lead.field-0 c.in_ok-literal_codes.field-0 c.in_ok-shifts.field-0 c.in_ok-lead.ensures c.in_ok-literal_codes.ensures (c.in_ok-shifts.ensures codes runs)

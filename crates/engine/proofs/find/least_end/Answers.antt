@@ -1,11 +1,12 @@
-use Rattle.std.proofs.Common.{vec_items, vec_len, refl, ◌∙◌, arith}
+use Rattle.std.proofs.Common.{◌≡◌, ℕ, ◌+◌, ◌<◌, ◌⊎◌, length, vec_items, vec_len, sym, ap, ◌∙◌, subst, arith}
 use lib.ListN.{length-map}
 use Rattle.std.proofs.lemmas.Bool.{both_ways}
 use Rattle.kinds.specs.Fragments.{anchor, bodies}
+use Rattle.kinds.specs.Spans.{NoLess}
 use Rattle.engine.specs.Codes.{codes_of}
 use Rattle.engine.specs.Reading.{held}
 use Rattle.engine.specs.Stored.{placed_of}
-use Rattle.engine.proofs.Anchored.{codes_stored, sides_of}
+use Rattle.engine.proofs.Anchored.{sides_of}
 use Rattle.engine.proofs.Least.{bounds_of, best_begins, none_begins, best_ends, next_on, next_before, best_next}
 use Rattle.engine.proofs.Smallest.{smaller_ends}
 use Rattle.engine.proofs.find.least_end.Goals as goal
@@ -39,8 +40,7 @@ returns-then-fit-place g c r f s =
     let mirror = c.args.mirror.now in
     let fragment = c.args.fragment.now in
     let xs = codes_of g.R.Element.Kind.alphabet (g.R.Reading.elements c.args.reading.now) in
-    let codes = c.literal_codes-len.ensures.codes (vec_items pattern.codes) (vec_items pattern.runs)
-    ∙ codes_stored r (held pattern) (held mirror) fragment f s (vec_items pattern.codes) (vec_items pattern.runs) (vec_items pattern.parts) c.as_slice.result.now refl c.as_slice.ensures.value in
+    let codes = c.as_slice-codes.ensures.value in
     let on = next_on r (held pattern) (held mirror) fragment f s c.args.from c.args.until xs _ codes c.loop-fit.place c.loop-fit.last c.next_fit_up_to.result c.next_fit_up_to.ensures c.in-Some.fit c.in-Some.is in
     absurd (omega arith)
 
@@ -50,8 +50,7 @@ returns-in_err-place-2 g c r f s =
     let mirror = c.args.mirror.now in
     let fragment = c.args.fragment.now in
     let xs = codes_of g.R.Element.Kind.alphabet (g.R.Reading.elements c.args.reading.now) in
-    let codes = c.literal_codes-len.ensures.codes (vec_items pattern.codes) (vec_items pattern.runs)
-    ∙ codes_stored r (held pattern) (held mirror) fragment f s (vec_items pattern.codes) (vec_items pattern.runs) (vec_items pattern.parts) c.as_slice.result.now refl c.as_slice.ensures.value in
+    let codes = c.as_slice-codes.ensures.value in
     let few = g.R.Reading.bounded c.args.reading.now in
     let many = length-map (g.R.Reading.elements c.args.reading.now) g.R.Element.Kind.alphabet.code in
     let before = next_before r (held pattern) (held mirror) fragment f s c.args.from c.args.until xs _ codes c.loop-fit.place c.loop-fit.last c.next_fit_up_to.result c.next_fit_up_to.ensures c.in-Some.fit c.in-Some.is (omega arith) in
@@ -63,12 +62,13 @@ loop-fit-preserved g c r f s =
     let mirror = c.args.mirror.now in
     let fragment = c.args.fragment.now in
     let xs = codes_of g.R.Element.Kind.alphabet (g.R.Reading.elements c.args.reading.now) in
-    let codes = c.literal_codes-len.ensures.codes (vec_items pattern.codes) (vec_items pattern.runs)
-    ∙ codes_stored r (held pattern) (held mirror) fragment f s (vec_items pattern.codes) (vec_items pattern.runs) (vec_items pattern.parts) c.as_slice.result.now refl c.as_slice.ensures.value in
+    let codes = c.as_slice-codes.ensures.value in
+    let long : length c.as_slice-codes.result.now ≡ vec_len fragment.codes = ap length codes ∙ sym fragment.codes.ok.0 in
+    let narrow = λ (q : ℕ) (past : c.last_useful-last.result < q). subst (λ n. (c.loop-fit.last < q) ⊎ NoLess c.smaller-best.result (q + n)) long (c.last_useful-last.ensures q past) in
     best_next r (held pattern) (held mirror) fragment f s c.args.from c.args.until xs _ codes c.loop-fit.place c.loop-fit.last c.next_fit_up_to.result c.next_fit_up_to.ensures
     c.in-Some.fit c.in-Some.is c.loop-fit.best c.end_through.result c.smaller-best.result c.in_ok-place-2.place c.last_useful-last.result
     (λ y. c.end_through.ensures (anchor r (bodies f.body)) (sides_of r (held pattern) (held mirror) fragment f s) y)
-    (c.smaller-best.ensures ∙ smaller_ends c.loop-fit.best c.end_through.result) c.in_ok-place-2.ensures.1 c.last_useful-last.ensures (c.loop-fit.invariant r f s)
+    (c.smaller-best.ensures ∙ smaller_ends c.loop-fit.best c.end_through.result) c.in_ok-place-2.ensures.1 narrow (c.loop-fit.invariant r f s)
 
 pub returns : goal.returns
 returns g c r f s =
@@ -76,6 +76,5 @@ returns g c r f s =
     let mirror = c.args.mirror.now in
     let fragment = c.args.fragment.now in
     let xs = codes_of g.R.Element.Kind.alphabet (g.R.Reading.elements c.args.reading.now) in
-    let codes = c.literal_codes-len.ensures.codes (vec_items pattern.codes) (vec_items pattern.runs)
-    ∙ codes_stored r (held pattern) (held mirror) fragment f s (vec_items pattern.codes) (vec_items pattern.runs) (vec_items pattern.parts) c.as_slice.result.now refl c.as_slice.ensures.value in
+    let codes = c.as_slice-codes.ensures.value in
     best_ends r (held pattern) (held mirror) fragment f s c.args.from c.args.until xs _ codes c.loop-fit.place c.loop-fit.last c.next_fit_up_to.result c.next_fit_up_to.ensures c.loop-fit.best c.in_default.is (c.loop-fit.invariant r f s)

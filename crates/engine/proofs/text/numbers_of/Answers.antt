@@ -18,5 +18,5 @@ returns c reference items gs held =
     let fragment : Fragment = c.in_ok-fragment.fragment.now in
     let at = c.args.number - 1 in
     let found = sym (nth_item fragments at c.get.result c.get.ensures.lookup) ∙ ap (option_map (λ x. x.now)) c.in_ok-fragment.was in
-    ap (λ i. Some (fragment.gap, fragment.lead, fragment.len, get_or fragment.shifts i 0)) c.from.ensures
+    (λ k. Some (fragment.gap, fragment.lead, c.len.ensures k, get_or fragment.shifts (c.from.ensures k) 0))
     ∙ shown_some reference items fragments gs c.args.number c.args.index fragment (omega arith) c.ranges.index.fits held found

@@ -70,14 +70,14 @@ member_with row k len h = by_words (record { words = set row.words (k / 64) (bit
 pub member_empty : (j : ℕ) → member (record { words = replicate 16 0 }) j ≡ false
 member_empty = by_words (record { words = replicate 16 0 }) (λ j. false) no_bits (λ j l. refl)
 
--- A word of a row moved on: `high` is the word that it comes from, and `low` the word below that, or 0 where there is none.
-pub moved_word : (row : Row) (by j low high word : ℕ) → j < 1024 → by / 64 ≤ j / 64 → high ≡ get_or row.words (j / 64 - by / 64) 0
-    → (by / 64 < j / 64 → low ≡ get_or row.words (j / 64 - by / 64 - 1) 0) → (by / 64 ≡ j / 64 → low ≡ 0)
+-- A word of a row moved on: `high` is word `from`, which it comes from, and `low` the word below that, or 0 where there is none.
+pub moved_word : (row : Row) (by j from low high word : ℕ) → j < 1024 → by / 64 + from ≡ j / 64 → high ≡ get_or row.words from 0
+    → (0 < from → low ≡ get_or row.words (from - 1) 0) → (from ≡ 0 → low ≡ 0)
     → ((b : ℕ) → bit word b ≡ (ltb b 64 && cond (ltb b (by % 64)) (bit low (64 - by % 64 + b)) (bit high (b - by % 64))))
     → bit word (j % 64) ≡ moved row by j
 unfolding moved
-moved_word row by j low high word h l top under none bits =
-    bits (j % 64) ∙ ⊎_elim (λ s. ⊎_elim (carried s) (λ e. nothing s (omega arith)) (cases_lt (by / 64) (j / 64))) own (cases_lt (j % 64) (by % 64))
+moved_word row by j from low high word h l top under none bits =
+    bits (j % 64) ∙ ⊎_elim (λ s. ⊎_elim (carried s) (λ e. nothing s (omega arith)) (cases_lt 0 from)) own (cases_lt (j % 64) (by % 64))
   where
     Same : Type 0
     Same =
@@ -85,16 +85,16 @@ moved_word row by j low high word h l top under none bits =
         ≡ (leb by j && member row (j - by))
 
     -- the member at j - by, by its word and bit
-    from : (w b : ℕ) → by ≤ j → get_or row.words ((j - by) / 64) 0 ≡ w → (j - by) % 64 ≡ b → member row (j - by) ≡ bit w b
-    from w b k e f = member_bit row (j - by) (omega arith) ∙ ap₂ bit e f
+    at : (w b : ℕ) → by ≤ j → get_or row.words ((j - by) / 64) 0 ≡ w → (j - by) % 64 ≡ b → member row (j - by) ≡ bit w b
+    at w b k e f = member_bit row (j - by) (omega arith) ∙ ap₂ bit e f
 
-    carried : j % 64 < by % 64 → by / 64 < j / 64 → Same
+    carried : j % 64 < by % 64 → 0 < from → Same
     carried s k =
-        let e : (j - by) / 64 ≡ j / 64 - by / 64 - 1 = omega arith in
-        let m = from low (64 - by % 64 + j % 64) (omega arith) (ap (λ i. get_or row.words i 0) e ∙ sym (under k)) (omega arith) in
+        let e : (j - by) / 64 ≡ from - 1 = omega arith in
+        let m = at low (64 - by % 64 + j % 64) (omega arith) (ap (λ i. get_or row.words i 0) e ∙ sym (under k)) (omega arith) in
         grind (arith, nat_tests)
 
-    nothing : j % 64 < by % 64 → by / 64 ≡ j / 64 → Same
+    nothing : j % 64 < by % 64 → from ≡ 0 → Same
     nothing s k =
         let z : bit low (64 - by % 64 + j % 64) ≡ false = ap (λ w. bit w (64 - by % 64 + j % 64)) (none k) ∙ bit_of_zero (64 - by % 64 + j % 64) in
         let short : j < by = omega arith in
@@ -102,8 +102,8 @@ moved_word row by j low high word h l top under none bits =
 
     own : by % 64 ≤ j % 64 → Same
     own s =
-        let e : (j - by) / 64 ≡ j / 64 - by / 64 = omega arith in
-        let m = from high (j % 64 - by % 64) (omega arith) (ap (λ i. get_or row.words i 0) e ∙ sym top) (omega arith) in
+        let e : (j - by) / 64 ≡ from = omega arith in
+        let m = at high (j % 64 - by % 64) (omega arith) (ap (λ i. get_or row.words i 0) e ∙ sym top) (omega arith) in
         grind (arith, nat_tests)
 
 -- nothing is moved to below the distance

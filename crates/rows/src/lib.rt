@@ -65,13 +65,10 @@ impl Row {
         requires { i < 16 }
         ensures { (j : ℕ) → j / 64 ≡ i → bit result (j % 64) ≡ moved self.now by j }
     {
-        let words = by / 64;
-        if i < words {
-            0
-        } else if i == words {
-            carried(0, self.words[0], by % 64)
-        } else {
-            carried(self.words[i - words - 1], self.words[i - words], by % 64)
+        match i.checked_sub(by / 64) {
+            None => 0,
+            Some(0) => carried(0, self.words[0], by % 64),
+            Some(from) => carried(self.words[from - 1], self.words[from], by % 64),
         }
     }
 
@@ -113,14 +110,14 @@ impl Row {
     pub fn widen(&mut self, least: usize, most: usize)
         ensures { (j : ℕ) → member self.new j ≡ (nat_lt j 1024 && some_distance self.old least most j) }
     {
-        if most < least {
+        let Some(reach) = most.checked_sub(least) else {
             *self = Row::none();
             return;
-        }
+        };
         if least > 0 {
             self.shift(least);
         }
-        self.smear((most - least).min(WIDTH - 1));
+        self.smear(reach.min(WIDTH - 1));
     }
 
     // Leaves out the members for which a question is answered no.

@@ -6,9 +6,9 @@ use Rattle.rows.proofs.Distances.{moved_none, no_distance, spread_more}
 use Rattle.rows.proofs.Row.widen.Goals as goal
 use Rattle.rows.proofs.Row.widen.Goals.{then-least-gt0, else-least-gt0}
 
-pub returns-then-most-least : goal.returns-then-most-least
-returns-then-most-least c j =
-    c.none.ensures j ∙ sym (and_right (ltb j 1024) _ (no_distance c.args.self.now c.args.least c.args.most j c.if-most-least.true))
+pub returns-in_default : goal.returns-in_default
+returns-in_default c j =
+    c.none.ensures j ∙ sym (and_right (ltb j 1024) _ (no_distance c.args.self.now c.args.least c.args.most j (omega (arith, c.in_default.ensures))))
 
 pub returns : goal.returns
 returns c =
@@ -22,4 +22,4 @@ returns c =
           let none : 0 ≡ least = omega (arith, w.if-least-gt0.false) in
           ap (λ r. member r j) w.self-is ∙ moved_none row j ∙ ap (λ n. ltb j 1024 && moved row n j) none
     ] in
-    spread_more row on c.smear.new.self least c.args.most c.min.result c.if-most-least.false c.min.ensures ons c.smear.ensures
+    spread_more row on c.smear.new.self least c.args.most c.min.result (omega (arith, c.in-Some.ensures)) (omega (arith, c.in-Some.ensures)) ons c.smear.ensures

@@ -7,10 +7,13 @@ ghost use Rattle.rows.specs.Rows.{bit, member, moved, some_distance, FirstFrom, 
 // How many offsets there are.
 const WIDTH: usize = 1024;
 
+// How many words hold them.
+const WORDS: usize = WIDTH / 64;
+
 // A set of offsets below 1,024: offset k is bit k % 64 of word k / 64.
 #[derive(Clone, Copy, PartialEq, Eq, Debug)]
 pub struct Row {
-    words: [u64; 16],
+    words: [u64; WORDS],
 }
 
 impl Row {
@@ -18,7 +21,7 @@ impl Row {
     pub fn none() -> Row
         ensures { (j : ℕ) → member result j ≡ false }
     {
-        Row { words: [0; 16] }
+        Row { words: [0; WORDS] }
     }
 
     // The set with the member k too, where k is below 1,024.
@@ -50,7 +53,7 @@ impl Row {
 
     // How many words there are up to the last one that is not 0.
     fn used(&self) -> usize
-        ensures count { result ≤ 16 }
+        ensures count { result ≤ WORDS }
         ensures last { 0 < result → 0 < slice_index self.now.words (result - 1) }
         ensures past { NoneFrom self.now (64 * result) }
     {
@@ -62,7 +65,7 @@ impl Row {
 
     // Word i of the row moved on by `by`.
     fn moved_word(&self, i: usize, by: usize) -> u64
-        requires { i < 16 }
+        requires { i < WORDS }
         ensures { (j : ℕ) → j / 64 ≡ i → bit result (j % 64) ≡ moved self.now by j }
     {
         match i.checked_sub(by / 64) {
@@ -76,7 +79,7 @@ impl Row {
     pub fn shift(&mut self, by: usize)
         ensures { (j : ℕ) → member self.new j ≡ (nat_lt j 1024 && moved self.old by j) }
     {
-        let end = (self.used() + by / 64 + 1).min(16);
+        let end = (self.used() + by / 64 + 1).min(WORDS);
         for i in (0..end).rev() {
             self.words[i] = self.moved_word(i, by);
         }
@@ -84,7 +87,7 @@ impl Row {
 
     // Adds each member moved on by `by`, those that come to stand in the words before `end`.
     fn join_moved(&mut self, end: usize, by: usize)
-        requires { end ≤ 16 }
+        requires { end ≤ WORDS }
         ensures { (j : ℕ) → member self.new j ≡ (member self.old j || (nat_lt j (64 * end) && moved self.old by j)) }
     {
         for i in (0..end).rev() {
@@ -96,7 +99,7 @@ impl Row {
     fn smear(&mut self, reach: usize)
         ensures { (j : ℕ) → member self.new j ≡ (nat_lt j 1024 && some_distance self.old 0 reach j) }
     {
-        let end = (self.used() + reach / 64 + 1).min(16);
+        let end = (self.used() + reach / 64 + 1).min(WORDS);
         let mut done = 0;
         // No `for`: the step grows from turn to turn, and a counted loop would join up to 1,023 times in place of 10.
         while done < reach {

@@ -26,20 +26,20 @@ use std::cmp::Ordering;
 const LAST: usize = 1023;
 
 // Moves a row on behind a gap.
-fn pass_gap(gap: Gap, row: &mut Row, len: u32)
-    ensures { (xs : List ℕ) → length xs ≡ len → Stepped (spaced gap.least gap.most) row.old xs row.new }
+fn pass_gap<R: Reading>(gap: Gap, row: &mut Row, reading: &R)
+    ensures { Stepped (spaced gap.least gap.most) row.old (codes_of R.Element.alphabet (R.elements reading.now)) row.new }
 {
     let most = gap.most.map_or(LAST, usize::from);
     row.widen(usize::from(gap.least), most);
-    row.cut(len as usize);
+    row.cut(reading.len() as usize);
 }
 
 // Moves a row on behind any one element.
-fn pass_any(row: &mut Row, len: u32)
-    ensures { (xs : List ℕ) → length xs ≡ len → Stepped any row.old xs row.new }
+fn pass_any<R: Reading>(row: &mut Row, reading: &R)
+    ensures { Stepped any row.old (codes_of R.Element.alphabet (R.elements reading.now)) row.new }
 {
     row.shift(1);
-    row.cut(len as usize);
+    row.cut(reading.len() as usize);
 }
 
 // The code of the element at a place.
@@ -175,7 +175,7 @@ fn pass<R: Reading>(pattern: &Pattern, part: Part, row: &mut Row, reading: &R)
 {
     match part {
         Part::Literal(code) => pass_literal(code, row, reading),
-        Part::Any => pass_any(row, reading.len()),
+        Part::Any => pass_any(row, reading),
         Part::Group { first, count } => {
             pass_group(pattern, pattern.runs_of(first, count), row, reading);
         }
@@ -194,7 +194,7 @@ fn pass<R: Reading>(pattern: &Pattern, part: Part, row: &mut Row, reading: &R)
             range.pass(row, reading);
         }
         Part::Other(run) => RunRange::of_one(false, pattern.run_codes(run)).pass(row, reading),
-        Part::Gap(gap) => pass_gap(gap, row, reading.len()),
+        Part::Gap(gap) => pass_gap(gap, row, reading),
     }
 }
 

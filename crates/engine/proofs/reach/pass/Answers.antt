@@ -7,19 +7,6 @@ use Rattle.engine.specs.Reaching.{Stepped, range_item}
 use Rattle.engine.proofs.Reaching.{alike, others}
 use Rattle.engine.proofs.reach.pass.Goals as goal
 
-pub returns-in-Literal : goal.returns-in-Literal
-returns-in-Literal g c =
-    let all = codes_of g.R.Element.Kind.alphabet (g.R.Reading.elements c.args.reading.now) in
-    subst (λ p. Stepped (item_of (vec_items c.args.pattern.now.codes) (vec_items c.args.pattern.now.runs) p) c.args.row.now all c.pass_literal.new.row) (sym c.in-Literal.is)
-    c.pass_literal.ensures
-
-pub returns-in-Any : goal.returns-in-Any
-returns-in-Any g c =
-    let elements = g.R.Reading.elements c.args.reading.now in
-    let code = g.R.Element.Kind.alphabet.code in
-    let all = codes_of g.R.Element.Kind.alphabet elements in
-    subst (λ p. Stepped (item_of (vec_items c.args.pattern.now.codes) (vec_items c.args.pattern.now.runs) p) c.args.row.now all c.pass_any.new.row) (sym c.in-Any.is)
-    (c.pass_any.ensures all (length-map elements code ∙ sym c.len.ensures))
 
 pub returns-in-Other : goal.returns-in-Other
 returns-in-Other g c =
@@ -28,11 +15,3 @@ returns-in-Other g c =
     subst (λ p. Stepped (item_of (vec_items c.args.pattern.now.codes) (vec_items c.args.pattern.now.runs) p) c.args.row.now all c.pass-in-Other.new.row) (sym c.in-Other.is)
     (subst (λ r. Stepped (other r) c.args.row.now all c.pass-in-Other.new.row) c.run_codes-in-Other.ensures
     (alike (range_item c.of_one.result) (other run) c.args.row.now all c.pass-in-Other.new.row (λ ys. ap (λ i. matches i ys) c.of_one.ensures ∙ others run ys) c.pass-in-Other.ensures))
-
-pub returns-in-Gap : goal.returns-in-Gap
-returns-in-Gap g c =
-    let elements = g.R.Reading.elements c.args.reading.now in
-    let code = g.R.Element.Kind.alphabet.code in
-    let all = codes_of g.R.Element.Kind.alphabet elements in
-    subst (λ p. Stepped (item_of (vec_items c.args.pattern.now.codes) (vec_items c.args.pattern.now.runs) p) c.args.row.now all c.pass_gap.new.row) (sym c.in-Gap.is)
-    (c.pass_gap.ensures all (length-map elements code ∙ sym c.len-in-Gap.ensures))

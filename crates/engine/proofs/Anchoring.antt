@@ -10,7 +10,6 @@ use Rattle.engine.specs.Compiled.{literal_codes, anchor_at}
 use Rattle.engine.specs.Compiling.{LiteralRun, Anchors, replaces}
 use Rattle.engine.specs.declared.compile.Literals.{Literals}
 use Rattle.engine.proofs.Bodies.{stretch_more}
-use Rattle.engine.proofs.Shifting.{literals_within}
 
 -- the codes of items with a literal more
 codes_more : (is : List Item) (c : ℕ) → literal_codes (is ++ literal c ∷ []) ≡ literal_codes is ++ c ∷ []
@@ -21,6 +20,16 @@ codes_more (group runs ∷ is) c = codes_more is c
 codes_more (range d inside low high ∷ is) c = codes_more is c
 codes_more (other run ∷ is) c = codes_more is c
 codes_more (gap m n ∷ is) c = codes_more is c
+
+-- items have at most as many literals
+literals_within : (is : List Item) → length (literal_codes is) ≤ length is
+literals_within [] = omega arith
+literals_within (literal c ∷ is) = let h = literals_within is in omega arith
+literals_within (any ∷ is) = let h = literals_within is in omega arith
+literals_within (group runs ∷ is) = let h = literals_within is in omega arith
+literals_within (range d inside low high ∷ is) = let h = literals_within is in omega arith
+literals_within (other run ∷ is) = let h = literals_within is in omega arith
+literals_within (gap m n ∷ is) = let h = literals_within is in omega arith
 
 -- items that are all literals are those of their codes
 all_literals : (is : List Item) → length (literal_codes is) ≡ length is → map literal (literal_codes is) ≡ is

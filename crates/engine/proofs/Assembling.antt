@@ -63,8 +63,7 @@ module _ (codes : List ℕ) (runs : List Run) (ps : List PlacedPart) where
     pub assembled : (gap n : ℕ) (stored : Vec ℕ) (table : List ℕ)
         → n ≡ sum_least (part_items codes runs (take start body))
         → vec_items stored ≡ part_codes (take (start + len - start) (drop start body))
-        → (length (literal_codes (part_items codes runs (take (start + len - start) (drop start body)))) ≡ length (take (start + len - start) (drop start body))
-        → Shifts table (literal_codes (part_items codes runs (take (start + len - start) (drop start body)))))
+        → Shifts table (vec_items stored)
         → Holds r (items codes runs ps) (record { first = first; end = end; anchor = first + start; codes = stored; gap = gap; lead = n; shifts = table }) (g gap)
     assembled gap n stored table n_is stored_is table_is =
         let moved : first + start - first ≡ start = omega arith in
@@ -75,10 +74,6 @@ module _ (codes : List ℕ) (runs : List Run) (ps : List PlacedPart) where
         let fits = found.literals.inside in
         let literals : part_items codes runs (take (start + len - start) (drop start body)) ≡ take len (drop start is) =
         part_items_take codes runs (start + len - start) (drop start body) ∙ ap (take (start + len - start)) (part_items_drop codes runs start body) ∙ ap (λ k. take k (drop start is)) whole in
-        let as_long : length (take (start + len - start) (drop start body)) ≡ len =
-        let taken = length-take (start + len - start) (drop start body) in
-        let left = length-drop start body in
-        omega arith in
         let kept : vec_items stored ≡ literal_codes (take len (drop start is)) = stored_is ∙ part_codes_are codes runs (take (start + len - start) (drop start body)) ∙ ap literal_codes literals in
         let many : vec_len stored ≡ len = stored.ok.0 ∙ ap length kept ∙ found.literals.all in
         record {
@@ -88,8 +83,7 @@ module _ (codes : List ℕ) (runs : List Run) (ps : List PlacedPart) where
           anchored = ap (anchor r) (sym (same gap)) ∙ found.anchored ∙ (λ k. anchor_at (same gap k) (sym moved k) (sym many k));
           codes = kept ∙ sym (ap (λ (a : Anchor). a.codes) at);
           leads = n_is ∙ ap sum_least (part_items_take codes runs start body) ∙ sym (ap lead at);
-          shifts = λ index h. table_is (ap (λ xs. length (literal_codes xs)) literals ∙ found.literals.all ∙ sym as_long) index h
-              ∙ ap (λ xs. shift (literal_codes xs) index) literals ∙ sym (ap (λ (a : Anchor). shift a.codes index) at);
+          shifts = λ index h. table_is index h ∙ ap (λ cs. shift cs index) (kept ∙ sym (ap (λ (a : Anchor). a.codes) at));
         }
 
 -- a body ends within the items

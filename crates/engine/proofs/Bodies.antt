@@ -62,3 +62,12 @@ part_codes_are codes runs (p ∷ ps) = (λ k. cons_option (part_code_is codes ru
     joined : (o : Option ℕ) (cs : List ℕ) → cons_option o cs ≡ elim o [ Some c ↦ c ∷ cs | None ↦ cs ]
     joined (Some c) cs = refl
     joined None cs = refl
+
+-- a part that is no literal
+pub no_code : (codes : List ℕ) (runs : List Run) (p : Part) → ((c : ℕ) → p ≡ part.Literal c → ⊥) → literal_code (item_of codes runs p) ≡ None
+no_code codes runs (part.Literal c) h = absurd (h c refl)
+no_code codes runs part.Any h = refl
+no_code codes runs (part.Group first count) h = refl
+no_code codes runs (part.Range d inside low high) h = refl
+no_code codes runs (part.Other run) h = refl
+no_code codes runs (part.Gap g) h = refl

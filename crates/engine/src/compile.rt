@@ -1,6 +1,6 @@
 // Compiles a pattern: its fragments, their anchors, and the numbers of their search.
 ghost use Rattle.std.specs.Prelude.{◌≡◌, ℕ, ◌+◌, ◌-◌, ◌<◌, ◌≤◌, List, length, take, drop, if◌then◌else◌, IfOk};
-ghost use Rattle.engine.specs.Compiled.{literal_codes, Holds, Hold};
+ghost use Rattle.engine.specs.Compiled.{Holds, Hold};
 ghost use Rattle.engine.specs.Compiling.{part_codes, part_items, replaces, Anchors, Shifts, Cuts};
 ghost use Rattle.engine.specs.Reading.{held};
 ghost use Rattle.engine.specs.Parts.{items_in, HasParts};
@@ -43,17 +43,14 @@ fn longest_shift(len: usize) -> Result<u32, AllocError>
         .ok_or(AllocError)
 }
 
-// The shift of each index: how far from behind the literals the last of them stands that has the index.
-fn shifts(literals: &[PlacedPart]) -> Result<[u32; INDICES], AllocError>
-    ensures { IfOk result (λ t. (codes : List ℕ) (runs : List StoredRun) → length (literal_codes (part_items codes runs literals.now)) ≡ length literals.now → Shifts t (literal_codes (part_items codes runs literals.now))) }
+// The shift of each index: how far from behind the codes the last of them stands that has the index.
+fn shifts(codes: &[u16]) -> Result<[u32; INDICES], AllocError>
+    ensures { IfOk result (λ t. Shifts t codes.now) }
 {
-    let mut distance = longest_shift(literals.len())?;
-    let mut table = [distance; INDICES];
-    for placed in literals {
-        distance -= 1;
-        if let Part::Literal(code) = placed.part {
-            table[usize::from(code) % INDICES] = distance;
-        }
+    let longest = longest_shift(codes.len())?;
+    let mut table = [longest; INDICES];
+    for (code, distance) in codes.iter().zip((1..longest).rev()) {
+        table[usize::from(*code) % INDICES] = distance;
     }
     Ok(table)
 }
@@ -157,15 +154,16 @@ fn fragment_at(
     let parts = pattern.parts.as_slice();
     let body = &parts[first..end];
     let Literals { start, len } = anchor(body, reference);
-    let literals = &body[start..start + len];
+    let codes = literal_codes(heap, &body[start..start + len])?;
+    let shifts = shifts(codes.as_slice())?;
     Ok(Fragment {
         first,
         end,
         anchor: first + start,
-        codes: literal_codes(heap, literals)?,
+        codes,
         gap,
         lead: lead(pattern, &body[..start])?,
-        shifts: shifts(literals)?,
+        shifts,
     })
 }
 

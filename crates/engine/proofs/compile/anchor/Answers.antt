@@ -7,8 +7,7 @@ use Rattle.engine.specs.declared.compile.Literals.{Literals}
 use Rattle.engine.specs.declared.part.Part.TheVariants as part
 use Rattle.engine.specs.declared.run.Run.{Run}
 use Rattle.engine.proofs.Anchoring.{Searching, search_begins, search_literal, search_other, search_ends}
-use Rattle.engine.proofs.Bodies.{part_items_length, part_items_at}
-use Rattle.engine.proofs.Shifting.{no_code}
+use Rattle.engine.proofs.Bodies.{part_items_length, part_items_at, no_code}
 use Rattle.engine.proofs.compile.anchor.Goals as goal
 use Rattle.engine.proofs.compile.anchor.Goals.{in-Literal, in_default, then-not-matches, else-not-matches}
 

@@ -1,4 +1,5 @@
 use Rattle.std.proofs.Common.{◌≡◌, ◌-◌, true, take, drop, vec_items, sym, ap, subst}
+use Rattle.engine.specs.Compiling.{Shifts}
 use Rattle.engine.specs.Stored.{all_parts_within}
 use Rattle.engine.proofs.Assembling.{assembled}
 use Rattle.engine.proofs.Lengths.{parts_take_within, parts_drop_within}
@@ -24,4 +25,5 @@ returns c =
     assembled codes runs (vec_items c.args.pattern.now.parts) c.args.reference first end c.requires.0 c.requires.1
     (take (end - first) (drop first slice)) (ap (λ ps. take (end - first) (drop first ps)) c.as_slice-parts.ensures.value)
     c.anchor-start.result.start c.anchor-start.result.len (c.anchor-start.ensures.anchored codes runs)
-    c.args.gap c.in_ok-lead.field-0 c.in_ok-literal_codes.field-0 c.in_ok-shifts.field-0 c.in_ok-lead.ensures c.in_ok-literal_codes.ensures (c.in_ok-shifts.ensures codes runs)
+    c.args.gap c.in_ok-lead.field-0 c.in_ok-codes.codes c.in_ok-shifts.shifts c.in_ok-lead.ensures c.in_ok-codes.ensures
+    (subst (Shifts c.in_ok-shifts.shifts) c.as_slice.ensures.value c.in_ok-shifts.ensures)

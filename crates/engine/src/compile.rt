@@ -21,18 +21,6 @@ fn sum(a: u64, b: u64) -> Result<u64, AllocError>
     a.checked_add(b).ok_or(AllocError)
 }
 
-// The least number of elements that parts take.
-fn lead(pattern: &Pattern, parts: &[PlacedPart]) -> Result<u64, AllocError>
-    requires { HasParts pattern.now parts.now }
-    ensures { IfOk result (λ n. n ≡ sum_least (items_in pattern.now parts.now)) }
-{
-    let mut total = 0;
-    for placed in parts {
-        total = sum(total, pattern.extent(placed.part).least as u64)?;
-    }
-    Ok(total)
-}
-
 // The shift of an index that none of as many literals has.
 fn longest_shift(len: usize) -> Result<u32, AllocError>
     ensures { IfOk result (λ n. n ≡ len + 1) }
@@ -112,15 +100,19 @@ fn cut_first(parts: &[PlacedPart]) -> Result<Cut, AllocError>
     let mut endless = false;
     let mut between: u64 = 0;
     for (i, placed) in parts.iter().enumerate() {
-        if let Part::Gap(gap) = placed.part {
-            endless = endless || gap.most.is_none();
-            between = sum(between, u64::from(gap.least))?;
-        } else if endless {
-            let next = Some((i, between));
-            return Ok(Cut { end, next });
-        } else {
-            end = i + 1;
-            between = 0;
+        match placed.part {
+            Part::Gap(gap) => {
+                endless |= gap.most.is_none();
+                between = sum(between, u64::from(gap.least))?;
+            }
+            _ if endless => {
+                let next = Some((i, between));
+                return Ok(Cut { end, next });
+            }
+            _ => {
+                end = i + 1;
+                between = 0;
+            }
         }
     }
     Ok(Cut { end, next: None })
@@ -139,32 +131,45 @@ fn literal_codes(heap: Global, parts: &[PlacedPart]) -> Result<Vec<u16>, AllocEr
         .collect(heap)
 }
 
-// The fragment whose body stands between two bounds, with the least number of elements before it.
-fn fragment_at(
-    heap: Global,
-    pattern: &Pattern,
-    reference: Reference,
-    first: usize,
-    end: usize,
-    gap: u64,
-) -> Result<Fragment, AllocError>
-    requires { (first ≤ end) × (end ≤ length pattern.now.parts.items) }
-    ensures { IfOk result (λ f. Holds reference (held pattern.now) f (record { break = gap; body = take (end - first) (drop first (held pattern.now)) })) }
-{
-    let parts = pattern.parts.as_slice();
-    let body = &parts[first..end];
-    let Literals { start, len } = anchor(body, reference);
-    let codes = literal_codes(heap, &body[start..start + len])?;
-    let shifts = shifts(codes.as_slice())?;
-    Ok(Fragment {
-        first,
-        end,
-        anchor: first + start,
-        codes,
-        gap,
-        lead: lead(pattern, &body[..start])?,
-        shifts,
-    })
+impl Pattern {
+    // The least number of elements that parts take.
+    fn lead(&self, parts: &[PlacedPart]) -> Result<u64, AllocError>
+        requires { HasParts self.now parts.now }
+        ensures { IfOk result (λ n. n ≡ sum_least (items_in self.now parts.now)) }
+    {
+        let mut total = 0;
+        for placed in parts {
+            total = sum(total, self.extent(placed.part).least as u64)?;
+        }
+        Ok(total)
+    }
+
+    // The fragment whose body stands between two bounds, with the least number of elements before it.
+    fn fragment_at(
+        &self,
+        heap: Global,
+        reference: Reference,
+        first: usize,
+        end: usize,
+        gap: u64,
+    ) -> Result<Fragment, AllocError>
+        requires { (first ≤ end) × (end ≤ length self.now.parts.items) }
+        ensures { IfOk result (λ f. Holds reference (held self.now) f (record { break = gap; body = take (end - first) (drop first (held self.now)) })) }
+    {
+        let body = &self.parts[first..end];
+        let Literals { start, len } = anchor(body, reference);
+        let codes = literal_codes(heap, &body[start..start + len])?;
+        let shifts = shifts(codes.as_slice())?;
+        Ok(Fragment {
+            first,
+            end,
+            anchor: first + start,
+            codes,
+            gap,
+            lead: self.lead(&body[..start])?,
+            shifts,
+        })
+    }
 }
 
 // The fragments of a pattern that stands in the order of its search (mirrored for a sequence from the back), compiled.
@@ -182,7 +187,7 @@ pub fn fragments_of(
     let mut gap = u64::from(lo);
     loop {
         let cut = cut_first(&parts[first..])?;
-        let fragment = fragment_at(heap, pattern, reference, first, first + cut.end, gap)?;
+        let fragment = pattern.fragment_at(heap, reference, first, first + cut.end, gap)?;
         fragments.push(fragment)?;
         let Some((start, between)) = cut.next else {
             return Ok(fragments);

@@ -203,11 +203,8 @@ pub fn refusal(pattern: &Pattern) -> Option<(Cause, usize)>
     ensures { result ≡ refusal (held pattern.now) }
 {
     let tally = tally_of(pattern);
-    match (tally.limit, tally.bare) {
-        (Some(place), _) => Some((Cause::Limit, place)),
-        (None, Some(place)) => Some((Cause::NoLiteral, place)),
-        (None, None) => None,
-    }
+    let bare = tally.bare.map(|place| (Cause::NoLiteral, place));
+    tally.limit.map(|place| (Cause::Limit, place)).or(bare)
 }
 
 // How many fragments a pattern has.

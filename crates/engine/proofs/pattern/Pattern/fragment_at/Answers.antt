@@ -3,27 +3,27 @@ use Rattle.engine.specs.Compiling.{Shifts}
 use Rattle.engine.specs.Stored.{all_parts_within}
 use Rattle.engine.proofs.Assembling.{assembled}
 use Rattle.engine.proofs.Lengths.{parts_take_within, parts_drop_within}
-use Rattle.engine.proofs.compile.fragment_at.Goals as goal
+use Rattle.engine.proofs.pattern.Pattern.fragment_at.Goals as goal
 
 pub lead-requires : goal.lead-requires
 lead-requires c =
-    let codes = vec_items c.args.pattern.now.codes in
-    let runs = vec_items c.args.pattern.now.runs in
+    let codes = vec_items c.args.self.now.codes in
+    let runs = vec_items c.args.self.now.runs in
     let first = c.args.first in
     let n = c.args.end - first in
-    let slice = c.as_slice-parts.result.now in
-    let within = subst (λ ps. all_parts_within codes runs ps ≡ true) (sym c.as_slice-parts.ensures.value) c.args.pattern.now.parts_within in
+    let slice = c.deref.result.now in
+    let within = subst (λ ps. all_parts_within codes runs ps ≡ true) (sym c.deref.ensures.value) c.args.self.now.parts_within in
     parts_take_within codes runs c.anchor-start.result.start (take n (drop first slice)) (parts_take_within codes runs n (drop first slice) (parts_drop_within codes runs first slice within))
 
 pub returns : goal.returns
 returns c =
-    let codes = vec_items c.args.pattern.now.codes in
-    let runs = vec_items c.args.pattern.now.runs in
+    let codes = vec_items c.args.self.now.codes in
+    let runs = vec_items c.args.self.now.runs in
     let first = c.args.first in
     let end = c.args.end in
-    let slice = c.as_slice-parts.result.now in
-    assembled codes runs (vec_items c.args.pattern.now.parts) c.args.reference first end c.requires.0 c.requires.1
-    (take (end - first) (drop first slice)) (ap (λ ps. take (end - first) (drop first ps)) c.as_slice-parts.ensures.value)
+    let slice = c.deref.result.now in
+    assembled codes runs (vec_items c.args.self.now.parts) c.args.reference first end c.requires.0 c.requires.1
+    (take (end - first) (drop first slice)) (ap (λ ps. take (end - first) (drop first ps)) c.deref.ensures.value)
     c.anchor-start.result.start c.anchor-start.result.len (c.anchor-start.ensures.anchored codes runs)
     c.args.gap c.in_ok-lead.field-0 c.in_ok-codes.codes c.in_ok-shifts.shifts c.in_ok-lead.ensures c.in_ok-codes.ensures
     (subst (Shifts c.in_ok-shifts.shifts) c.as_slice.ensures.value c.in_ok-shifts.ensures)

@@ -5,7 +5,7 @@ use Rattle.engine.specs.Compiling.{part_items}
 use Rattle.engine.specs.declared.contents.Extent.{Extent}
 use Rattle.engine.specs.declared.part.PlacedPart.{PlacedPart}
 use Rattle.engine.proofs.Lengths.{part_at_within}
-use Rattle.engine.proofs.compile.lead.Goals as goal
+use Rattle.engine.proofs.pattern.Pattern.lead.Goals as goal
 
 pub loop-placed-init : goal.loop-placed-init
 loop-placed-init c = zero-add _
@@ -15,7 +15,7 @@ extent-requires c = part_at_within _ _ c.args.parts.now c.loop-placed.placed-ind
 
 pub loop-placed-preserved : goal.loop-placed-preserved
 loop-placed-preserved c =
-    let left : List PlacedPart → ℕ = λ ps. sum_least (part_items (vec_items c.args.pattern.now.codes) (vec_items c.args.pattern.now.runs) ps) in
+    let left : List PlacedPart → ℕ = λ ps. sum_least (part_items (vec_items c.args.self.now.codes) (vec_items c.args.self.now.runs) ps) in
     let ps = c.args.parts.now in
     let i = c.loop-placed.placed-index in
     let more = c.in_ok-total.ensures in
@@ -26,7 +26,7 @@ loop-placed-preserved c =
 
 pub returns : goal.returns
 returns c =
-    let left : List PlacedPart → ℕ = λ ps. sum_least (part_items (vec_items c.args.pattern.now.codes) (vec_items c.args.pattern.now.runs) ps) in
+    let left : List PlacedPart → ℕ = λ ps. sum_least (part_items (vec_items c.args.self.now.codes) (vec_items c.args.self.now.runs) ps) in
     sym (add-zero c.loop-placed.total)
     ∙ ap (λ n. c.loop-placed.total + n) (sym (at_drop_all left c.args.parts.now c.loop-placed.placed-index c.loop-placed-test.false))
     ∙ c.loop-placed.invariant

@@ -1,8 +1,9 @@
 -- Where an anchor stands, and that no place is missed where the window moves on by a shift.
-use Rattle.std.proofs.Common.{◌≡◌, ℕ, zero, suc, ◌+◌, ◌-◌, ◌%◌, ◌<◌, ◌≤◌, min, max, true, false, eqb, leb, List, [], ◌∷◌, length, get_or, drop, Some, None, Decides, Option, sym, refl, ap, ◌∙◌, ⊎_elim, add-zero, arith}
-use Rattle.std.specs.List.{slice_get}
+use Rattle.std.proofs.Common.{◌≡◌, ℕ, Bool, option_map, MatchBool, subst, zero, suc, ◌+◌, ◌-◌, ◌%◌, ◌<◌, ◌≤◌, min, max, true, false, eqb, leb, List, [], ◌∷◌, length, get_or, drop, Some, None, ◌⊎◌, Decides, Option, sym, refl, ap, ◌∙◌, ⊎_elim, add-zero, zero-add, arith}
+use Rattle.std.specs.List.{AllWithin, HoldsAt, enumerate_from, slice_get}
 use Rattle.std.proofs.iter.runs.Lists.{slice_get_within}
 use Rattle.std.proofs.lemmas.List.{length-map, get_or-map, get_or-take, get_or-drop, ext_get_or}
+use Rattle.std.proofs.lemmas.List.FromFn.{get_or-enumerate_from, length-enumerate_from}
 use Rattle.std.proofs.lemmas.Option.{slice_get-get_or}
 use Rattle.std.proofs.lemmas.Bool.{leb-true, le-leb, lt-leb, eq-eqb, not-true, cases_lt, cond-true, cond-false, cond_both}
 use Rattle.std.proofs.lemmas.Bool.Decides.{Decides-and, Decides-like, Decides-not, not_from_Decides}
@@ -56,6 +57,39 @@ stands_decides codes xs place = Decides-like (stands_at codes xs place) there ba
 -- where they cannot, it fails
 pub stands_not : (codes xs : List ℕ) (place : ℕ) → (Stands codes xs place → ⊥) → stands_at codes xs place ≡ false
 stands_not codes xs place none = not-true _ ((Decides-not _ (stands_decides codes xs place)).1 none)
+
+-- the place that stands so far behind another has a code
+abbrev pub HasCode : {E : Type 0} → Alphabet E → List E → ℕ → ℕ × ℕ → Type 0
+HasCode a xs place (k, code) = option_map a.code (slice_get xs (place + k)) ≡ Some code
+
+module _ {E : Type 0} (a : Alphabet E) (xs : List E) (codes : List ℕ) (place : ℕ) where
+  -- what a place is asked for is what the list of codes has there
+  has_code : (p m : ℕ) (o : Option E) → slice_get xs p ≡ o → option_map a.code o ≡ Some m → get_or (codes_of a xs) p 0 ≡ m
+  has_code p m (Some x) is e = let there = code_at a xs p x is in cc
+  has_code p m None is e = cc
+
+  -- and so is what it has
+  code_there : (p m : ℕ) (o : Option E) → p < length xs → slice_get xs p ≡ o → get_or (codes_of a xs) p 0 ≡ m → option_map a.code o ≡ Some m
+  code_there p m (Some x) l is e = ap Some (sym (code_at a xs p x is) ∙ e)
+  code_there p m None l is e = absurd (omega (arith, code_past a xs p is, length-map xs a.code))
+
+  -- a code stands beside its index
+  indexed : (k : ℕ) → k < length codes → get_or (enumerate_from 0 codes) k (0, 0) ≡ (k, get_or codes k 0)
+  indexed k l = get_or-enumerate_from 0 codes k (0, 0) l ∙ ap (λ n. (n, get_or codes k 0)) (zero-add k)
+
+  -- asking each code at its place tells whether they stand there, where as many elements are left
+  pub stands_from_all : (r : Bool) → place + length codes ≤ length xs
+      → MatchBool r (AllWithin (HasCode a xs place) (enumerate_from 0 codes) 0 (length (enumerate_from 0 codes)))
+      ((k : ℕ) × (k < length (enumerate_from 0 codes)) × HoldsAt (λ p. HasCode a xs place p → ⊥) (enumerate_from 0 codes) k)
+      → r ≡ stands_at codes (codes_of a xs) place
+  stands_from_all true inside all =
+      sym ((stands_decides codes (codes_of a xs) place).1 (record {
+        inside = simp length-map inside;
+        equal = λ k l. has_code (place + k) _ _ refl (subst (HasCode a xs place) (indexed k l) (all k (0, 0) (omega arith) (omega (arith, length-enumerate_from 0 codes))));
+      }))
+  stands_from_all false inside (k, l, none) =
+      let below : k < length codes = omega (arith, length-enumerate_from 0 codes) in
+      sym (stands_not codes (codes_of a xs) place (λ s. none (0, 0) (subst (HasCode a xs place) (sym (indexed k below)) (code_there (place + k) _ _ (omega arith) refl (s.equal k below)))))
 
 -- Shifts.
 
@@ -170,10 +204,20 @@ module _ (codes xs : List ℕ) where
       go None f = refl
       go (Some p) f = cond-false (leb p last) (Some p) None (lt-leb p last (omega (arith, f.0)))
 
-  -- no first place is past the end of the list
-  pub first_whole : (place last : ℕ) → length xs ≤ last → not_past last (first_fit codes xs place) ≡ first_fit codes xs place
-  first_whole place last h = go (first_fit codes xs place) (first_fit_exactly codes xs place)
-    where
-      go : (o : Option ℕ) → FirstFit codes xs place o → not_past last o ≡ o
-      go None f = refl
-      go (Some p) f = let s = (stands_decides codes xs p).0 f.1 in first_within p last (omega (arith, s.inside))
+  -- The search has come to a place, and no place before it is missed.
+  module _ (from to place : ℕ) (so_far : first_fit codes xs place ≡ first_fit codes xs from) where
+    -- they stand there
+    pub found_here : place ≤ to → stands_at codes xs place ≡ true → Some place ≡ not_past to (first_fit codes xs from)
+    found_here within y = sym (first_within place to within) ∙ ap (not_past to) (sym (first_here place y) ∙ so_far)
+
+    -- they would end past the end of the list
+    pub found_none : length xs < place + length codes → None ≡ not_past to (first_fit codes xs from)
+    found_none past = ap (not_past to) (sym (first_none place past) ∙ so_far)
+
+    -- they do not stand there, and would end past the end of the list at the next place
+    pub found_last : stands_at codes xs place ≡ false → length xs ≤ place + length codes → None ≡ not_past to (first_fit codes xs from)
+    found_last fails past = ap (not_past to) (sym (first_none (suc place) (omega arith)) ∙ sym (first_later place fails) ∙ so_far)
+
+    -- the place is past the last one, or they would end past the end of the list
+    pub found_past : (to < place) ⊎ (length xs < place + length codes) → None ≡ not_past to (first_fit codes xs from)
+    found_past h = ⊎_elim (λ past. sym (first_past place to past) ∙ ap (not_past to) so_far) found_none h

@@ -1,13 +1,13 @@
-use Rattle.std.proofs.Common.{◌≡◌, ◌+◌, ◌-◌}
+use Rattle.std.proofs.Common.{◌≡◌, ◌+◌, ◌-◌, ◌≤◌, length}
 use Rattle.kinds.specs.Search.{first_fit}
 use Rattle.engine.specs.Codes.{codes_of, ShiftsOf}
 use Rattle.engine.proofs.scan.next_fit_up_to.Given as goal
 
--- no place before this one is missed
-abbrev pub invariant-loop-place : goal.invariant-loop-place
-invariant-loop-place g l =
+-- no place before this window's is missed
+abbrev pub invariant-loop-end : goal.invariant-loop-end
+invariant-loop-end g l =
     let codes = codes_of g.R.Element.Kind.alphabet (g.R.Reading.elements l.reading) in
-    ShiftsOf l.shifts l.anchor → first_fit l.anchor codes l.place ≡ first_fit l.anchor codes l.from
+    (length l.anchor ≤ l.end) × (ShiftsOf l.shifts l.anchor → first_fit l.anchor codes (l.end - length l.anchor) ≡ first_fit l.anchor codes l.from)
 
-abbrev pub decreases-loop-place : goal.decreases-loop-place
-decreases-loop-place g l = l.last + 1 - l.place
+abbrev pub decreases-loop-end : goal.decreases-loop-end
+decreases-loop-end g l = l.last + l.width + 1 - l.end

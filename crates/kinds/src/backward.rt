@@ -29,11 +29,7 @@ impl<R: Reading> Reading for Backward<R> {
     }
 
     fn at(&self, place: u32) -> Option<R::Element> {
-        let len = self.forward.len();
-        if place < len {
-            self.forward.at(len - 1 - place)
-        } else {
-            None
-        }
+        let last = self.forward.len().checked_sub(1)?;
+        self.forward.at(last.checked_sub(place)?)
     }
 }

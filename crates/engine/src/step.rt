@@ -1,19 +1,18 @@
 // What one token does to the item that is being read.
-ghost use Rattle.std.specs.Prelude.{◌≡◌, MatchResult};
+ghost use Rattle.std.specs.Prelude.{◌≡◌, IfOk};
 ghost use Rattle.engine.specs.Contexts.{ContextWithin, StepsTo, nameless, state_in};
 ghost use Rattle.engine.specs.Tokens.{character, with_token};
-ghost use Rattle.engine.specs.declared.cause.Cause.TheVariants.{Memory};
 ghost use Rattle.engine.specs.declared.context.Context.TheVariants.{Group as InGroup, Bracket as InBracket, Low as InLow, High as InHigh};
 ghost use Rattle.kinds.specs.Grammar.{Position};
 ghost use Rattle.kinds.specs.Reader.{between as between_items, next as next_by, with_code};
 
 use crate::context::Context;
-use crate::fault::Fault;
 use crate::part::Part;
 use crate::pattern::Pattern;
 use crate::run::Run;
 use crate::token::{Punctuation, Token};
 use kinds::pattern::Direction;
+use std::alloc::AllocError;
 
 // What one token does: it cannot stand here, the item goes on, or the item is complete.
 #[derive(Clone, Copy)]
@@ -43,9 +42,9 @@ fn in_group(
     first: usize,
     start: usize,
     mark: Punctuation,
-) -> Result<Step, Fault>
+) -> Result<Step, AllocError>
     requires { ContextWithin pattern.old (InGroup first start) }
-    ensures { MatchResult result (StepsTo pattern.old pattern.new (next_by nameless (state_in pattern.old (InGroup first start)) (character mark))) (λ f. f.cause ≡ Memory) }
+    ensures { IfOk result (StepsTo pattern.old pattern.new (next_by nameless (state_in pattern.old (InGroup first start)) (character mark))) }
 {
     let run = pattern.run_from(start);
     let earlier = pattern.runs.len() - first;
@@ -121,9 +120,13 @@ fn in_high(pattern: &Pattern, inside: bool, low: Run, start: usize, mark: Punctu
 }
 
 // A punctuation, by the context.
-fn punctuation(pattern: &mut Pattern, context: Context, mark: Punctuation) -> Result<Step, Fault>
+fn punctuation(
+    pattern: &mut Pattern,
+    context: Context,
+    mark: Punctuation,
+) -> Result<Step, AllocError>
     requires { ContextWithin pattern.old context }
-    ensures { MatchResult result (StepsTo pattern.old pattern.new (next_by nameless (state_in pattern.old context) (character mark))) (λ f. f.cause ≡ Memory) }
+    ensures { IfOk result (StepsTo pattern.old pattern.new (next_by nameless (state_in pattern.old context) (character mark))) }
 {
     match context {
         Context::Start | Context::AfterThing | Context::AfterGap => Ok(between(pattern, mark)),
@@ -135,9 +138,9 @@ fn punctuation(pattern: &mut Pattern, context: Context, mark: Punctuation) -> Re
 }
 
 // A literal: an item between items, else one code more of a run.
-fn literal(pattern: &mut Pattern, context: Context, code: u16) -> Result<Step, Fault>
+fn literal(pattern: &mut Pattern, context: Context, code: u16) -> Result<Step, AllocError>
     requires { ContextWithin pattern.old context }
-    ensures { MatchResult result (StepsTo pattern.old pattern.new (with_code nameless (state_in pattern.old context) code)) (λ f. f.cause ≡ Memory) }
+    ensures { IfOk result (StepsTo pattern.old pattern.new (with_code nameless (state_in pattern.old context) code)) }
 {
     let later = match context {
         Context::Start | Context::AfterThing | Context::AfterGap => {
@@ -154,9 +157,13 @@ fn literal(pattern: &mut Pattern, context: Context, code: u16) -> Result<Step, F
 }
 
 // One token.
-pub(crate) fn advance(pattern: &mut Pattern, context: Context, token: Token) -> Result<Step, Fault>
+pub(crate) fn advance(
+    pattern: &mut Pattern,
+    context: Context,
+    token: Token,
+) -> Result<Step, AllocError>
     requires { ContextWithin pattern.old context }
-    ensures { MatchResult result (StepsTo pattern.old pattern.new (with_token nameless (state_in pattern.old context) token.entry)) (λ f. f.cause ≡ Memory) }
+    ensures { IfOk result (StepsTo pattern.old pattern.new (with_token nameless (state_in pattern.old context) token.entry)) }
 {
     match token {
         Token::Literal { code, .. } => literal(pattern, context, code),

@@ -1,15 +1,13 @@
 // Puts codes, runs and parts into a pattern.
-ghost use Rattle.std.specs.Prelude.{◌≡◌, ◌≤◌, true, [], length, drop, MatchResult};
+ghost use Rattle.std.specs.Prelude.{◌≡◌, ◌≤◌, true, [], length, drop, IfOk};
 ghost use Rattle.engine.specs.Contexts.{CodePushed, RunPushed, PartPushed};
 ghost use Rattle.engine.specs.Reading.{held};
 ghost use Rattle.engine.specs.Stored.{run_codes, run_within, part_within};
-ghost use Rattle.engine.specs.declared.cause.Cause.TheVariants.{Memory};
 
-use crate::fault::Fault;
 use crate::part::PlacedPart;
 use crate::pattern::Pattern;
 use crate::run::Run;
-use std::alloc::Global;
+use std::alloc::{AllocError, Global};
 
 impl Pattern {
     // A pattern with no items.
@@ -26,8 +24,8 @@ impl Pattern {
     }
 
     // A second pattern with the same items.
-    pub(crate) fn copied(&self, heap: Global) -> Result<Pattern, Fault>
-        ensures { MatchResult result (λ p. held p ≡ held self.now) (λ f. f.cause ≡ Memory) }
+    pub(crate) fn copied(&self, heap: Global) -> Result<Pattern, AllocError>
+        ensures { IfOk result (λ p. held p ≡ held self.now) }
     {
         let codes = Vec::from_slice(heap, self.codes.as_slice())?;
         let runs = Vec::from_slice(heap, self.runs.as_slice())?;
@@ -49,26 +47,26 @@ impl Pattern {
     }
 
     // Puts one code behind the others.
-    pub(crate) fn push_code(&mut self, code: u16) -> Result<(), Fault>
-        ensures { MatchResult result (λ _. CodePushed self.old code self.new) (λ f. f.cause ≡ Memory) }
+    pub(crate) fn push_code(&mut self, code: u16) -> Result<(), AllocError>
+        ensures { IfOk result (λ _. CodePushed self.old code self.new) }
     {
         self.codes.push(code)?;
         Ok(())
     }
 
     // Puts one run behind the others.
-    pub(crate) fn push_run(&mut self, run: Run) -> Result<(), Fault>
+    pub(crate) fn push_run(&mut self, run: Run) -> Result<(), AllocError>
         requires { run_within self.old.codes.items run ≡ true }
-        ensures { MatchResult result (λ _. RunPushed self.old run self.new) (λ f. f.cause ≡ Memory) }
+        ensures { IfOk result (λ _. RunPushed self.old run self.new) }
     {
         self.runs.push(run)?;
         Ok(())
     }
 
     // Puts one item behind the others.
-    pub(crate) fn push_part(&mut self, part: PlacedPart) -> Result<(), Fault>
+    pub(crate) fn push_part(&mut self, part: PlacedPart) -> Result<(), AllocError>
         requires { part_within self.old.codes.items self.old.runs.items part.part ≡ true }
-        ensures { MatchResult result (λ _. PartPushed self.old part self.new) (λ f. f.cause ≡ Memory) }
+        ensures { IfOk result (λ _. PartPushed self.old part self.new) }
     {
         self.parts.push(part)?;
         Ok(())

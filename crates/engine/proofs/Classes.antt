@@ -1,11 +1,11 @@
 -- What the reader of texts does with a character, by its class where something is expected.
-use Rattle.std.proofs.Common.{◌≡◌, ℕ, ◌+◌, ◌<◌, Bool, true, false, cond, ◌⊎◌, List, length, get_or, drop, is_some, Some, None, Err, sym, refl, ap, ◌∙◌, subst, inl, inr, arith, Bor}
-use Rattle.kinds.specs.Alphabet.{Alphabet}
+use Rattle.std.proofs.Common.{◌≡◌, ℕ, ◌+◌, ◌<◌, Bool, true, false, cond, List, length, get_or, drop, Some, None, sym, refl, ap, ◌∙◌, subst, arith, Bor}
+use Rattle.kinds.specs.Alphabet.{Alphabet, Lawful}
 use Rattle.kinds.specs.Grammar.{start, after_thing, after_gap}
 use Rattle.kinds.specs.Patterns.{any, gap}
 use Rattle.kinds.specs.Reader.{State, between, asked, half, alternatives, bracket, low, high, digits, endless, Next, stuck, goes_on, complete, leads, with_code, with_element, pair_in, next, follow}
 use Rattle.kinds.specs.Reader.{least as lower}
-use Rattle.engine.specs.Scanning.{ReadsLiteral, StopsInPair}
+use Rattle.engine.specs.Scanning.{standing, GoesOn, NoPair}
 use Rattle.engine.specs.Tokens.{expected, class_of, character, continued, Completes, Stops, ReadsToken, StopsExpecting}
 use Rattle.engine.specs.declared.token.Class.{Class}
 use Rattle.engine.specs.declared.token.Class.TheVariants.{Mark, Question, Star, Brace, Pair, Misplaced}
@@ -14,8 +14,8 @@ use Rattle.engine.specs.declared.token.Expects.TheVariants as expects
 use Rattle.engine.specs.declared.token.Gap.{Gap}
 use Rattle.engine.specs.declared.token.Punctuation.{Punctuation}
 use Rattle.engine.specs.declared.token.Token.TheVariants as token
-use Rattle.engine.proofs.Gaps.{standing, stands_true, stands_false}
-use Rattle.kinds.proofs.Texts.{some_below_decides}
+use Rattle.engine.proofs.Gaps.{stands_true, stands_false}
+use Rattle.kinds.proofs.Texts.{pair_leads}
 use Rattle.engine.proofs.Machine.{only_false, only_true, step_by, stops_here}
 
 same_expected : {e f : Expects} → Some e ≡ Some f → e ≡ f
@@ -113,32 +113,29 @@ module _ {E : Type 0} (a : Alphabet E) where
     brace_stops at is h s x from = class_steps Brace is s from x ∙ h from
 
     -- a literal
-    pub literal_reads : (pair : Bor (List ℕ)) (at code : ℕ) → class_of e (get_or t place 0) ≡ Pair → get_or t (place + 1) 0 < 256 → ReadsLiteral a t place code → ReadsToken a t e place (token.Literal pair at code) (place + 2)
-    literal_reads pair at code is byte h =
+    pub literal_reads : Lawful a → (pair : Bor (List ℕ)) (at code later : ℕ) → class_of e (get_or t place 0) ≡ Pair → GoesOn a (get_or t place 0) t (place + 1) (code, later) → ReadsToken a t e place (token.Literal pair at code) later
+    literal_reads law pair at code later is h =
         let first = get_or t place 0 in
         let second = get_or t (place + 1) 0 in
-        let on : place + 1 + 1 ≡ place + 2 = omega arith in
-        let led : leads a first ≡ true = (some_below_decides (λ d. is_some (a.named first d)) 256).1 (second, byte, ap is_some h.1.1) in
+        let led : leads a first ≡ true = pair_leads a law first second h.1.0 h.1.1 in
         record {
-          forward = omega arith;
-          inside = omega (arith, h.0);
+          forward = omega (arith, h.2);
+          inside = omega (arith, h.0, h.2);
           reads = λ s from x. class_steps Pair is s from x
               ∙ ap (λ n. continued a n from place (place + 1) (drop (place + 1) t)) (only_true _ _ led)
               ∙ step_by a t (half s first) (with_code a s code) from (place + 1) h.0 (ap (with_element a s) h.1.1 ∙ ap (with_code a s) (sym h.1.2))
               ∙ code_goes_on s e x code from (place + 1) place (place + 1 + 1) (drop (place + 1 + 1) t)
-              ∙ ap (λ p. continued a (with_code a s code) from place p (drop p t)) on;
+              ∙ ap (λ p. continued a (with_code a s code) from place p (drop p t)) (sym h.2);
         }
 
-    -- the first character leads nowhere, or the second does not follow
-    pub literal_stops : (at : ℕ) → class_of e (get_or t place 0) ≡ Pair → StopsInPair a t place at → StopsExpecting a t e place at
-    literal_stops at is (inl (here, none)) s x from =
-        class_steps Pair is s from x ∙ ap (λ n. continued a n from place (place + 1) (drop (place + 1) t)) (only_false _ _ none) ∙ ap Err (sym here)
-    literal_stops at is (inr (after, led, second)) s x from =
+    -- the first character leads nowhere
+    pub unled_stops : class_of e (get_or t place 0) ≡ Pair → leads a (get_or t place 0) ≡ false → StopsExpecting a t e place place
+    unled_stops is none s x from =
+        class_steps Pair is s from x ∙ ap (λ n. continued a n from place (place + 1) (drop (place + 1) t)) (only_false _ _ none)
+
+    -- the second character does not follow
+    pub half_stops : class_of e (get_or t place 0) ≡ Pair → leads a (get_or t place 0) ≡ true → NoPair a (get_or t place 0) t (place + 1) → StopsExpecting a t e place (place + 1)
+    half_stops is led none s x from =
         class_steps Pair is s from x
         ∙ ap (λ n. continued a n from place (place + 1) (drop (place + 1) t)) (only_true _ _ led)
-        ∙ stops_here a t (half s (get_or t place 0)) (place + 1) refl (no_second second) from
-        ∙ ap Err (sym after)
-      where
-        no_second : (length t ≡ place + 1) ⊎ ((place + 1 < length t) × (a.named (get_or t place 0) (get_or t (place + 1) 0) ≡ None)) → place + 1 < length t → next a (half s (get_or t place 0)) (get_or t (place + 1) 0) ≡ stuck
-        no_second (inl ended) i = absurd (omega arith)
-        no_second (inr (i, none)) _ = ap (with_element a s) none
+        ∙ stops_here a t (half s (get_or t place 0)) (place + 1) refl (λ i. ap (with_element a s) (none i)) from

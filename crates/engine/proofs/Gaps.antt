@@ -1,25 +1,22 @@
 -- What the reader of texts does with a gap in braces, by the numbers and characters that stand there.
-use Rattle.std.proofs.Common.{◌≡◌, ℕ, ◌+◌, ◌<◌, Bool, true, false, ◌&&◌, eqb, ltb, List, length, get_or, drop, Some, None, Option, refl, ap, ◌∙◌, ⊎_elim, arith}
+use Rattle.std.proofs.Common.{◌≡◌, ℕ, ◌+◌, ◌<◌, true, false, eqb, ltb, List, length, get_or, drop, Some, None, Option, refl, ap, ◌∙◌, ⊎_elim, arith}
 use Rattle.std.proofs.lemmas.Bool.{eqb-true, ltb-true, lt-ltb, ne_eqb, and_parts, and_cases, and_left, and_right, and_from, both_ways, cond-false, cond_both}
 use Rattle.kinds.specs.Alphabet.{Alphabet, within}
 use Rattle.kinds.specs.Patterns.{Item, gap}
 use Rattle.kinds.specs.Reader.{digits, endless, Numeral, stuck, goes_on, complete, closed, behind_digits, next, follow}
 use Rattle.kinds.specs.Reader.{least as lower, most as upper}
-use Rattle.engine.specs.Scanning.{NoDigit, LongestNumber}
+use Rattle.engine.specs.Scanning.{standing, NoDigit, LongestNumber}
 use Rattle.engine.specs.Tokens.{continued, Completes, Stops}
 use Rattle.engine.proofs.Machine.{only_true, only_false, next_behind_digits, next_closed, step_by, stops_here, number_run}
 
 module _ (t : List ℕ) (place c : ℕ) where
-  -- a character stands at a place
-  abbrev pub standing : Bool
-  standing = ltb place (length t) && eqb (get_or t place 0) c
-
-  pub stands_true : standing ≡ true → (place < length t) × (get_or t place 0 ≡ c)
+  -- where a character stands, and where another does
+  pub stands_true : standing t place c ≡ true → (place < length t) × (get_or t place 0 ≡ c)
   stands_true e =
       let parts = and_parts (ltb place (length t)) (eqb (get_or t place 0) c) e in
       (ltb-true place (length t) parts.0, eqb-true (get_or t place 0) c parts.1)
 
-  pub stands_false : standing ≡ false → place < length t → eqb (get_or t place 0) c ≡ false
+  pub stands_false : standing t place c ≡ false → place < length t → eqb (get_or t place 0) c ≡ false
   stands_false e h =
       ⊎_elim
       (λ out. absurd (both_ways (ltb place (length t)) out (lt-ltb place (length t) h)))

@@ -12,6 +12,7 @@ use Rattle.engine.specs.Stored.{item_of}
 use Rattle.engine.specs.Tokens.{expected, character, with_token, continued, StopsExpecting, ReadsToken, Lexed}
 use Rattle.engine.specs.declared.context.Context.{Context}
 use Rattle.engine.specs.declared.context.Context.TheVariants as context
+use Rattle.engine.specs.declared.lexer.Stop.{Stop}
 use Rattle.engine.specs.declared.part.Part.{Part}
 use Rattle.engine.specs.declared.part.Part.TheVariants as part
 use Rattle.engine.specs.declared.pattern.Pattern.{Pattern}
@@ -195,8 +196,8 @@ module _ {E : Type 0} (a : Alphabet E) where
     lexed_end none h = (subst (λ o. Lexed a t' e' place (Ok o) later) none h).0 ∙ ap length same
 
     -- a place where the text cannot be read on
-    pub lexed_stop : (at : ℕ) → Lexed a t' e' place (Err at) later → StopsExpecting a t e place at
-    lexed_stop at h = subst (λ x. StopsExpecting a t x place at) is (subst (λ x. StopsExpecting a x e' place at) same h.0)
+    pub lexed_stop : (stop : Stop) → Lexed a t' e' place (Err stop) later → StopsExpecting a t e place stop.place
+    lexed_stop stop h = subst (λ x. StopsExpecting a t x place stop.place) is (subst (λ x. StopsExpecting a x e' place stop.place) same h.0)
 
 -- the context behind an item lies within every pattern
 pub behind_within : (p : Pattern) (i : Part) → ContextWithin p (context_behind i)

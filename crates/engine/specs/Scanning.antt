@@ -1,21 +1,26 @@
 -- What the parts of the lexer find at a place of a text.
-use Rattle.std.specs.Prelude.{◌≡◌, ℕ, ◌+◌, ◌<◌, ◌≤◌, true, false, ◌⊎◌, List, length, take, drop, Some, None, slice_index}
+use Rattle.std.specs.Prelude.{◌≡◌, ℕ, ◌+◌, ◌<◌, ◌≤◌, Bool, false, ◌&&◌, List, length, take, drop, Some, None, ◌==◌, nat_lt, slice_index}
 use Rattle.kinds.specs.Alphabet.{Alphabet, within}
 use Rattle.kinds.specs.Grammar.{Digits, followed_by}
-use Rattle.kinds.specs.Reader.{leads}
+use Rattle.engine.specs.declared.cursor.Cursor.{Cursor}
 
-module _ {E : Type 0} (a : Alphabet E) (t : List ℕ) (place : ℕ) where
-  -- a pair stands there that names an element of this code
-  abbrev pub ReadsLiteral : ℕ → Type 0
-  ReadsLiteral code =
-      (place + 1 < length t) × ((x : E) × (a.named (slice_index t place) (slice_index t (place + 1)) ≡ Some x) × (code ≡ a.code x))
+-- a character stands at a place
+abbrev pub standing : List ℕ → ℕ → ℕ → Bool
+standing t place c = nat_lt place (length t) && (slice_index t place == c)
 
-  -- no such pair stands there: its first character leads nowhere, or no second one follows
-  abbrev pub StopsInPair : ℕ → Type 0
-  StopsInPair at =
-      ((at ≡ place) × (leads a (slice_index t place) ≡ false))
-      ⊎ ((at ≡ place + 1) × (leads a (slice_index t place) ≡ true)
-      × ((length t ≡ place + 1) ⊎ ((place + 1 < length t) × (a.named (slice_index t place) (slice_index t (place + 1)) ≡ None))))
+-- a value with the cursor behind it: the text is the same, and the value is read up to the cursor's place
+abbrev pub Behind : {A : Type 0} → Cursor → (A × ℕ → Type 0) → A × Cursor → Type 0
+Behind before Reads r = (r.1.text.now ≡ before.text.now) × Reads (r.0, r.1.place)
+
+module _ {E : Type 0} (a : Alphabet E) (first : ℕ) (t : List ℕ) (place : ℕ) where
+  -- a character stands there that is the second of a pair, behind its first: the code of the element that the pair names, and
+  -- the place behind it
+  abbrev pub GoesOn : ℕ × ℕ → Type 0
+  GoesOn r = (place < length t) × ((x : E) × (a.named first (slice_index t place) ≡ Some x) × (r.0 ≡ a.code x)) × (r.1 ≡ place + 1)
+
+  -- no such character stands there
+  abbrev pub NoPair : Type 0
+  NoPair = place < length t → a.named first (slice_index t place) ≡ None
 
 module _ (t : List ℕ) (place : ℕ) where
   abbrev pub NoDigit : Type 0

@@ -4,6 +4,7 @@ use Rattle.kinds.specs.Alphabet.{Alphabet}
 use Rattle.kinds.specs.Grammar.{Placed, gap_allowed, behind}
 use Rattle.kinds.specs.Patterns.{Item, any, gap}
 use Rattle.kinds.specs.Reader.{State, between, asked, half, alternatives, bracket, low, high, digits, endless, Next, stuck, goes_on, complete, with_code, next, follow, in_front}
+use Rattle.engine.specs.declared.lexer.Stop.{Stop}
 use Rattle.engine.specs.declared.token.Punctuation.{Punctuation}
 use Rattle.engine.specs.declared.token.Punctuation.TheVariants.{OpenGroup, Bar, CloseGroup, OpenRange, Except, Colon, CloseRange}
 use Rattle.engine.specs.declared.token.Expects.{Expects}
@@ -103,7 +104,7 @@ module _ {E : Type 0} (a : Alphabet E) where
   ReadsPart t e place r = ReadsToken t e place r.0 r.1 × Part t place r.0
 
   -- what the lexer answers where e is expected, and where it then is
-  abbrev pub Lexed : List ℕ → Expects → ℕ → Result (Option Token) ℕ → ℕ → Type 0
+  abbrev pub Lexed : List ℕ → Expects → ℕ → Result (Option Token) Stop → ℕ → Type 0
   Lexed t e place (Ok None) later = (place ≡ length t) × (later ≡ place)
   Lexed t e place (Ok (Some tok)) later = ReadsPart t e place (tok, later)
-  Lexed t e place (Err at) later = StopsExpecting t e place at × (later ≡ place)
+  Lexed t e place (Err stop) later = StopsExpecting t e place stop.place × (later ≡ place)

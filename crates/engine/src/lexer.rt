@@ -1,53 +1,39 @@
 // Hands out the tokens of a pattern text.
-ghost use Rattle.std.specs.Prelude.{◌≡◌, ◌<◌, ◌≤◌, ◌&&◌, length, if◌then◌else◌, MatchOption, MatchResult, ◌==◌, nat_lt, slice_index};
-ghost use Rattle.engine.specs.Scanning.{ReadsLiteral, StopsInPair, NoDigit, LongestNumber};
+ghost use Rattle.std.specs.Prelude.{◌≡◌, ◌+◌, ◌<◌, ◌≤◌, false, true, length, take, MatchOption, MatchResult, slice_index};
+ghost use Rattle.std.specs.List.{prefix_len};
+ghost use Rattle.engine.specs.Scanning.{standing, Behind, GoesOn, NoPair, NoDigit, LongestNumber};
 ghost use Rattle.engine.specs.Tokens.{class_of, ReadsGap, Stops, ReadsPart, StopsExpecting, Lexed};
-ghost use Rattle.engine.specs.declared.token.Expects.TheVariants.{Item, Thing};
+ghost use Rattle.kinds.specs.Alphabet.{within};
+ghost use Rattle.kinds.specs.Grammar.{Digits, followed_by};
 ghost use Rattle.kinds.specs.Reader.{digits, leads, least as lower, most as upper};
 
+use crate::cursor::Cursor;
 use crate::token::{Class, Expects, Gap, Punctuation, Token};
 use kinds::kind::Kind;
 
-// What a character begins between items, where a gap may stand or not.
-fn class_between(c: u8, gap: bool) -> Class
-    ensures { result ≡ class_of (if gap then Item else Thing) c }
-{
-    match c {
-        b'?' => Class::Question,
-        b'(' => Class::Mark(Punctuation::OpenGroup),
-        b'[' => Class::Mark(Punctuation::OpenRange),
-        b'*' if gap => Class::Star,
-        b'{' if gap => Class::Brace,
-        b'*' | b'{' => Class::Misplaced,
-        _ => Class::Pair,
-    }
+// Where a text cannot be read on.
+#[derive(Clone, Copy, PartialEq, Eq, Debug)]
+pub struct Stop {
+    pub place: usize,
 }
 
 // What a character begins where something is expected.
 fn class(expects: Expects, c: u8) -> Class
     ensures { result ≡ class_of expects c }
 {
-    match expects {
-        Expects::Thing => class_between(c, false),
-        Expects::Item => class_between(c, true),
-        Expects::Alternative => match c {
-            b'|' => Class::Mark(Punctuation::Bar),
-            b')' => Class::Mark(Punctuation::CloseGroup),
-            _ => Class::Pair,
-        },
-        Expects::Range => match c {
-            b'!' => Class::Mark(Punctuation::Except),
-            _ => Class::Pair,
-        },
-        Expects::Low => match c {
-            b':' => Class::Mark(Punctuation::Colon),
-            b']' => Class::Mark(Punctuation::CloseRange),
-            _ => Class::Pair,
-        },
-        Expects::High => match c {
-            b']' => Class::Mark(Punctuation::CloseRange),
-            _ => Class::Pair,
-        },
+    match (expects, c) {
+        (Expects::Thing | Expects::Item, b'?') => Class::Question,
+        (Expects::Thing | Expects::Item, b'(') => Class::Mark(Punctuation::OpenGroup),
+        (Expects::Thing | Expects::Item, b'[') => Class::Mark(Punctuation::OpenRange),
+        (Expects::Item, b'*') => Class::Star,
+        (Expects::Item, b'{') => Class::Brace,
+        (Expects::Thing, b'*' | b'{') => Class::Misplaced,
+        (Expects::Alternative, b'|') => Class::Mark(Punctuation::Bar),
+        (Expects::Alternative, b')') => Class::Mark(Punctuation::CloseGroup),
+        (Expects::Range, b'!') => Class::Mark(Punctuation::Except),
+        (Expects::Low, b':') => Class::Mark(Punctuation::Colon),
+        (Expects::Low | Expects::High, b']') => Class::Mark(Punctuation::CloseRange),
+        _ => Class::Pair,
     }
 }
 
@@ -55,165 +41,170 @@ fn class(expects: Expects, c: u8) -> Class
 fn begins_pair<K: Kind>(first: u8) -> bool
     ensures { result ≡ leads K.alphabet first }
 {
-    for second in 0..=u8::MAX {
-        if K::named(first, second).is_some() {
-            return true;
-        }
-    }
-    false
+    (0..=u8::MAX).any(|second| K::named(first, second).is_some())
 }
-
-// A literal at a place: the code of its element, or the place where the text cannot be read on.
-fn literal<K: Kind>(text: &[u8], place: usize) -> Result<u16, usize>
-    requires { place < length text.now }
-    ensures { MatchResult result (ReadsLiteral K.alphabet text.now place) (StopsInPair K.alphabet text.now place) }
+// How many digits a text begins with, up to four.
+fn digit_count(text: &[u8]) -> usize
+    ensures { result ≡ prefix_len (within 48 57) (take 4 text.now) }
 {
-    let first = text[place];
-    if place + 1 < text.len() {
-        if let Some(x) = K::named(first, text[place + 1]) {
-            return Ok(x.code());
-        }
-    }
-    if begins_pair::<K>(first) {
-        Err(place + 1)
-    } else {
-        Err(place)
-    }
+    text.iter()
+        .take(4)
+        .take_while(|c| c.is_ascii_digit())
+        .count()
 }
 
-// A number of one to four digits at a place, and the place behind it; nothing where no digit stands.
-fn number(text: &[u8], place: usize) -> Option<(u16, usize)>
-    requires { place ≤ length text.now }
-    ensures { MatchOption result (NoDigit text.now place) (LongestNumber text.now place) }
-{
-    let mut end = place;
-    let mut value: u16 = 0;
-    while end < text.len() && end - place < 4 && text[end].is_ascii_digit() {
-        value = value * 10 + u16::from(text[end] - b'0');
-        end += 1;
-    }
-    if end == place {
-        None
-    } else {
-        Some((value, end))
-    }
-}
-
-// Whether a character stands at a place.
-fn stands(text: &[u8], place: usize, c: u8) -> bool
-    ensures { result ≡ nat_lt place (length text.now) && (slice_index text.now place == c) }
-{
-    place < text.len() && text[place] == c
-}
-
-// A gap behind the dash after its least length: the gap and the place behind it, or the place where the text cannot be
-// read on.
-fn upper_end<K: Kind>(text: &[u8], least: u16, place: usize) -> Result<(Gap, usize), usize>
-    requires { place ≤ length text.now }
-    ensures { MatchResult result (ReadsGap K.alphabet text.now (digits (upper least) 0 0) place) (Stops K.alphabet text.now (digits (upper least) 0 0) place) }
-{
-    let (most, end) = if stands(text, place, b'*') {
-        (None, place + 1)
-    } else {
-        match number(text, place) {
-            Some((most, end)) => (Some(most), end),
-            None => return Err(place),
-        }
-    };
-    if stands(text, end, b'}') {
-        Ok((Gap { least, most }, end + 1))
-    } else {
-        Err(end)
-    }
-}
-
-// A gap behind its opening brace.
-fn gap<K: Kind>(text: &[u8], place: usize) -> Result<(Gap, usize), usize>
-    requires { place ≤ length text.now }
-    ensures { MatchResult result (ReadsGap K.alphabet text.now (digits lower 0 0) place) (Stops K.alphabet text.now (digits lower 0 0) place) }
-{
-    let Some((least, end)) = number(text, place) else {
-        return Err(place);
-    };
-    if stands(text, end, b'-') {
-        upper_end::<K>(text, least, end + 1)
-    } else if stands(text, end, b'}') {
-        let most = Some(least);
-        Ok((Gap { least, most }, end + 1))
-    } else {
-        Err(end)
-    }
-}
-
-// The token at a place where something is expected, and the place behind it, or the place where the text cannot be read on.
-fn token_at<'t, K: Kind>(
-    text: &'t [u8],
-    place: usize,
-    expects: Expects,
-) -> Result<(Token<'t>, usize), usize>
-    requires { place < length text.now }
-    ensures { MatchResult result (ReadsPart K.alphabet text.now expects place) (StopsExpecting K.alphabet text.now expects place) }
-{
-    match class(expects, text[place]) {
-        Class::Mark(mark) => Ok((Token::Mark(mark), place + 1)),
-        Class::Question if stands(text, place + 1, b'?') => Ok((Token::Any, place + 2)),
-        Class::Question => Err(place + 1),
-        Class::Star => Ok((
-            Token::Gap(Gap {
-                least: 0,
-                most: None,
-            }),
-            place + 1,
-        )),
-        Class::Brace => {
-            let (gap, later) = gap::<K>(text, place + 1)?;
-            Ok((Token::Gap(gap), later))
-        }
-        Class::Pair => {
-            let code = literal::<K>(text, place)?;
-            let pair = &text[place..place + 2];
-            Ok((Token::Literal { pair, place, code }, place + 2))
-        }
-        Class::Misplaced => Err(place),
-    }
-}
-
-// A lexer over a lent text, at a place.
+// A lexer over a lent text.
 #[derive(Drop)]
 pub struct Lexer<'t> {
-    text: &'t [u8],
-    place: usize,
-    ghost inside: { place ≤ length text.now },
+    at: Cursor<'t>,
 }
 
 impl<'t> Lexer<'t> {
+    // The lexer at the start of a text.
     pub fn new(text: &'t [u8]) -> Lexer<'t>
-        ensures text { result.text.now ≡ text.now }
-        ensures place { result.place ≡ 0 }
+        ensures text { result.at.text.now ≡ text.now }
+        ensures place { result.at.place ≡ 0 }
     {
-        Lexer { text, place: 0 }
+        Lexer {
+            at: Cursor { text, place: 0 },
+        }
     }
 
     // The place behind the last token.
     pub fn place(&self) -> usize
-        ensures { result ≡ self.now.place }
+        ensures { result ≡ self.now.at.place }
     {
-        self.place
+        self.at.place
     }
 
     // The next token where something is expected, none at the end of the text, or the place where the text cannot be read
     // on. Only a token moves the lexer on.
-    pub fn next<K: Kind>(&mut self, expects: Expects) -> Result<Option<Token<'t>>, usize>
-        ensures same_text { self.new.text.now ≡ self.old.text.now }
-        ensures token { Lexed K.alphabet self.old.text.now expects self.old.place result self.new.place }
+    pub fn next<K: Kind>(&mut self, expects: Expects) -> Result<Option<Token<'t>>, Stop>
+        ensures same_text { self.new.at.text.now ≡ self.old.at.text.now }
+        ensures token { Lexed K.alphabet self.old.at.text.now expects self.old.at.place result self.new.at.place }
     {
-        let place = self.place;
-        let text = self.text;
-        if place == text.len() {
+        let Some((token, later)) = self.at.token::<K>(expects)? else {
             return Ok(None);
-        }
-        let (token, later) = token_at::<K>(text, place, expects)?;
-        self.place = later;
+        };
+        self.at = later;
         Ok(Some(token))
+    }
+}
+
+impl<'t> Cursor<'t> {
+    // The next token, with the cursor behind it; none at the end of the text.
+    fn token<K: Kind>(self, expects: Expects) -> Result<Option<(Token<'t>, Cursor<'t>)>, Stop>
+        ensures { MatchResult result (λ o. MatchOption o (self.entry.place ≡ length self.entry.text.now) (Behind self.entry (ReadsPart K.alphabet self.entry.text.now expects self.entry.place))) (λ stop. StopsExpecting K.alphabet self.entry.text.now expects self.entry.place stop.place) }
+    {
+        let Some((first, behind)) = self.split_first() else {
+            return Ok(None);
+        };
+        let read = match class(expects, first) {
+            Class::Mark(mark) => (Token::Mark(mark), behind),
+            Class::Question => match behind.past(b'?') {
+                Some(later) => (Token::Any, later),
+                None => return Err(behind.stop()),
+            },
+            Class::Star => {
+                let (least, most) = (0, None);
+                (Token::Gap(Gap { least, most }), behind)
+            }
+            Class::Brace => {
+                let (gap, later) = behind.gap::<K>()?;
+                (Token::Gap(gap), later)
+            }
+            Class::Pair => {
+                let Some((code, later)) = behind.second::<K>(first) else {
+                    let stop = if begins_pair::<K>(first) {
+                        behind
+                    } else {
+                        self
+                    };
+                    return Err(stop.stop());
+                };
+                let place = self.place;
+                let pair = &self.text[place..later.place];
+                (Token::Literal { pair, place, code }, later)
+            }
+            Class::Misplaced => return Err(self.stop()),
+        };
+        Ok(Some(read))
+    }
+
+    // A gap behind its opening brace, with the cursor behind it.
+    fn gap<K: Kind>(self) -> Result<(Gap, Cursor<'t>), Stop>
+        ensures { MatchResult result (Behind self.entry (ReadsGap K.alphabet self.entry.text.now (digits lower 0 0) self.entry.place)) (λ stop. Stops K.alphabet self.entry.text.now (digits lower 0 0) self.entry.place stop.place) }
+    {
+        let (least, end) = self.number()?;
+        if let Some(upper) = end.past(b'-') {
+            return upper.upper_end::<K>(least);
+        }
+        let later = end.require(b'}')?;
+        let most = Some(least);
+        Ok((Gap { least, most }, later))
+    }
+
+    // A gap behind the dash after its least length, with the cursor behind it.
+    fn upper_end<K: Kind>(self, least: u16) -> Result<(Gap, Cursor<'t>), Stop>
+        ensures { MatchResult result (Behind self.entry (ReadsGap K.alphabet self.entry.text.now (digits (upper least) 0 0) self.entry.place)) (λ stop. Stops K.alphabet self.entry.text.now (digits (upper least) 0 0) self.entry.place stop.place) }
+    {
+        let (most, end) = if let Some(end) = self.past(b'*') {
+            (None, end)
+        } else {
+            let (most, end) = self.number()?;
+            (Some(most), end)
+        };
+        let later = end.require(b'}')?;
+        Ok((Gap { least, most }, later))
+    }
+
+    // A number of one to four digits, with the cursor behind it.
+    fn number(self) -> Result<(u16, Cursor<'t>), Stop>
+        ensures { MatchResult result (Behind self.entry (LongestNumber self.entry.text.now self.entry.place)) (λ stop. NoDigit self.entry.text.now self.entry.place × (stop.place ≡ self.entry.place)) }
+    {
+        let Cursor { text, place } = self;
+        let rest = &text[place..];
+        let digits = &rest[..digit_count(rest)];
+        if digits.is_empty() {
+            return Err(self.stop());
+        }
+        let mut value = 0;
+        for digit in digits {
+            value = value * 10 + u16::from(*digit - b'0');
+        }
+        let place = place + digits.len();
+        Ok((value, Cursor { text, place }))
+    }
+
+    // The code of the element that a pair names, behind its first character, with the cursor behind the pair; nothing where
+    // no such pair stands.
+    fn second<K: Kind>(self, first: u8) -> Option<(u16, Cursor<'t>)>
+        ensures { MatchOption result (NoPair K.alphabet first self.entry.text.now self.entry.place) (Behind self.entry (GoesOn K.alphabet first self.entry.text.now self.entry.place)) }
+    {
+        let (second, later) = self.split_first()?;
+        let x = K::named(first, second)?;
+        Some((x.code(), later))
+    }
+
+    // The cursor behind a character, if that stands next.
+    fn past(self, c: u8) -> Option<Cursor<'t>>
+        ensures { MatchOption result (standing self.entry.text.now self.entry.place c ≡ false) (λ later. (standing self.entry.text.now self.entry.place c ≡ true) × (later.text.now ≡ self.entry.text.now) × (later.place ≡ self.entry.place + 1)) }
+    {
+        let (first, later) = self.split_first()?;
+        (first == c).then_some(later)
+    }
+
+    // The cursor behind a character that has to stand next.
+    fn require(self, c: u8) -> Result<Cursor<'t>, Stop>
+        ensures { MatchResult result (λ later. (standing self.entry.text.now self.entry.place c ≡ true) × (later.text.now ≡ self.entry.text.now) × (later.place ≡ self.entry.place + 1)) (λ stop. (standing self.entry.text.now self.entry.place c ≡ false) × (stop.place ≡ self.entry.place)) }
+    {
+        self.past(c).ok_or(self.stop())
+    }
+
+    // That the text cannot be read on from here.
+    fn stop(self) -> Stop
+        ensures { result.place ≡ self.entry.place }
+    {
+        Stop { place: self.place }
     }
 }

@@ -5,6 +5,7 @@ pub mod cause;
 pub mod compile;
 mod contents;
 mod context;
+mod cursor;
 pub mod fault;
 mod find;
 pub mod fragment;

@@ -38,7 +38,7 @@ pub fn read<K: Kind>(heap: Global, sequence: u8, text: &[u8]) -> Result<Pattern,
         let place = lexer.place();
         let next = match lexer.next::<K>(context.expects()) {
             Ok(next) => next,
-            Err(place) => return Err(refusal(sequence, place)),
+            Err(stop) => return Err(refusal(sequence, stop.place)),
         };
         let Some(token) = next else {
             return if context.may_end() {

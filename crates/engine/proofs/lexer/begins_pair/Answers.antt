@@ -1,23 +1,15 @@
-use Rattle.std.proofs.Common.{◌≡◌, ℕ, ◌+◌, Bool, is_some, sym, refl, ap, ◌∙◌, arith}
-use Rattle.kinds.specs.Reader.{some_below}
-use Rattle.kinds.proofs.Texts.{some_below_decides}
-use Rattle.engine.proofs.Scans.{none_below_more}
+use Rattle.std.proofs.Common.{◌≡◌, is_some, rules, subst, arith}
+use Rattle.std.proofs.iter.runs.Sources.{inclusive_listed}
+use Rattle.std.specs.Iterator.Runs.{ItemsCountUp}
+use borrow.Author.Tests.{tests}
+use Rattle.engine.proofs.Scans.{any_below}
 use Rattle.engine.proofs.lexer.begins_pair.Goals as goal
 
-pub loop-second-init : goal.loop-second-init
-unfolding some_below
-loop-second-init g c = refl
-
-pub returns-then-is_some : goal.returns-then-is_some
-returns-then-is_some g c =
-    sym ((some_below_decides (λ d. is_some (g.K.Kind.alphabet.named c.args.first d)) 256).1 (c.loop-second.second, omega arith, ap is_some (sym c.named.ensures) ∙ sym c.if-is_some.ensures))
-
-pub loop-second-preserved : goal.loop-second-preserved
-loop-second-preserved g c =
-    none_below_more (λ d. is_some (g.K.Kind.alphabet.named c.args.first d)) c.loop-second.second c.loop-second.invariant (ap is_some (sym c.named.ensures) ∙ sym c.if-is_some.ensures)
-
-pub returns-else-is_some : goal.returns-else-is_some
-returns-else-is_some g c =
-    let p : ℕ → Bool = λ d. is_some (g.K.Kind.alphabet.named c.args.first d) in
-    let last : c.loop-second.second + 1 ≡ 256 = omega arith in
-    sym (ap (some_below p) (sym last) ∙ none_below_more p c.loop-second.second c.loop-second.invariant (ap is_some (sym c.named.ensures) ∙ sym c.if-is_some.ensures))
+pub returns : goal.returns
+returns g c =
+    let run = c.any.ensures.runs.0 in
+    let listed = inclusive_listed run run.seen in
+    let first : listed.0 ≡ 0 = grind arith in
+    let last : listed.1 ≡ 256 = grind arith in
+    let up = (listed.4 (grind arith)).0 in
+    any_below _ _ (λ d. is_some (g.K.Kind.alphabet.named c.args.first d)) (λ x b q call. search (rules, tests)) run 256 (subst (λ a. ItemsCountUp run a 256) first (subst (ItemsCountUp run listed.0) last up)) _ c.any.ensures.runs.2

@@ -1,8 +1,7 @@
 // Measures the search: how long a file's bytes are searched for a pattern text.
 #![tactic(auto)]
 
-use engine::cause::Cause;
-use engine::fault::Fault;
+use engine::fault::Failure;
 use engine::text::compiled;
 use kinds::backward::Backward;
 use kinds::byte::Byte;
@@ -37,7 +36,7 @@ fn answer(rt: &HostRuntime, request: Request) -> Result<String, Complaint> {
     let text = request.text.as_bytes();
     let sequence = match compiled::<Byte>(heap, 1, Reference::Anywhere, 0, 0, text) {
         Ok(sequence) => sequence,
-        Err(fault) => return refusal(heap, fault),
+        Err(failure) => return refusal(heap, failure),
     };
     let measure = match request.order {
         Order::Forward => measured(rt, &sequence, &held, request.runs)?,
@@ -47,17 +46,11 @@ fn answer(rt: &HostRuntime, request: Request) -> Result<String, Complaint> {
 }
 
 // A refusal as a line; want of memory is none.
-fn refusal(heap: Global, fault: Fault) -> Result<String, Complaint> {
-    let Fault {
-        cause,
-        sequence,
-        place,
-    } = fault;
-    if let Cause::Memory = cause {
-        return Err(Complaint::Memory);
+fn refusal(heap: Global, failure: Failure) -> Result<String, Complaint> {
+    match failure {
+        Failure::Memory => Err(Complaint::Memory),
+        Failure::Refused(fault) => Ok(format!(in heap; "{fault}")?),
     }
-    let number = cause.number();
-    Ok(format!(in heap; "refused {number} {sequence} {place}")?)
 }
 
 fn run(rt: &HostRuntime) -> Result<(), Complaint> {

@@ -1,5 +1,5 @@
 -- How the items of a text come together while it is read, token by token.
-use Rattle.std.proofs.Common.{◌≡◌, ℕ, true, false, List, [], ◌∷◌, ◌++◌, length, drop, Some, None, Ok, Err, vec_items, Option, Result, sym, refl, ap, ◌∙◌, subst, ⊎_elim, append_assoc, append-nil, arith}
+use Rattle.std.proofs.Common.{◌≡◌, ℕ, true, false, List, [], ◌∷◌, ◌++◌, length, drop, Some, None, Ok, Err, vec_items, is_ok, MatchResult, Option, Result, sym, refl, ap, ◌∙◌, subst, ⊎_elim, append_assoc, append-nil, arith}
 use Rattle.std.proofs.lemmas.List.{drop_all}
 use Rattle.std.proofs.lemmas.Bool.{cases_Bool, cond-true, cond-false, both_ways}
 use Rattle.kinds.specs.Alphabet.{Alphabet, Lawful, alphanumeric}
@@ -198,6 +198,11 @@ module _ {E : Type 0} (a : Alphabet E) where
     -- a place where the text cannot be read on
     pub lexed_stop : (stop : Stop) → Lexed a t' e' place (Err stop) later → StopsExpecting a t e place stop.place
     lexed_stop stop h = subst (λ x. StopsExpecting a t x place stop.place) is (subst (λ x. StopsExpecting a x e' place stop.place) same h.0)
+
+-- an Ok behind a changed error was an Ok
+pub ok_before : {A E F : Type 0} (r : Result A E) (m : Result A F) (n : A) (P : E → Type 0) → MatchResult r (λ x. m ≡ Ok x) P → is_ok m ≡ is_ok r → m ≡ Ok n → r ≡ Ok n
+ok_before (Ok x) m n P h same is = let e = sym h ∙ is in cc
+ok_before (Err e) m n P h same is = absurd (grind arith)
 
 -- the context behind an item lies within every pattern
 pub behind_within : (p : Pattern) (i : Part) → ContextWithin p (context_behind i)

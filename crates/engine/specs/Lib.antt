@@ -11,6 +11,7 @@ pub mod Parts
 pub mod Reaching
 pub mod Reading
 pub mod Scanning
+pub mod Refusals
 pub mod Searched
 pub mod Sequences
 pub mod Sides

@@ -1,5 +1,5 @@
 -- What texts are refused for, and what sequences are compiled to.
-use Rattle.std.specs.Prelude.{◌≡◌, ℕ, zero, suc, Bool, ◌⊎◌, List, length, Some, None, Ok, Err, vec_items, Option, Result}
+use Rattle.std.specs.Prelude.{◌≡◌, ℕ, zero, suc, Bool, List, length, Some, None, Ok, Err, vec_items, Option, Result}
 use Rattle.std.specs.List.{slice_get}
 use Rattle.std.specs.Option.{option_map}
 use Rattle.kinds.specs.Alphabet.{Alphabet}
@@ -13,8 +13,9 @@ use Rattle.engine.specs.Compiled.{Hold}
 use Rattle.engine.specs.Limits.{refusal}
 use Rattle.engine.specs.Reading.{held}
 use Rattle.engine.specs.declared.cause.Cause.{Cause}
-use Rattle.engine.specs.declared.cause.Cause.TheVariants.{Memory, Grammar}
-use Rattle.engine.specs.declared.fault.Fault.{Fault}
+use Rattle.engine.specs.declared.cause.Cause.TheVariants.{Grammar}
+use Rattle.engine.specs.declared.fault.Failure.{Failure}
+use Rattle.engine.specs.declared.fault.Failure.TheVariants as failure
 use Rattle.engine.specs.declared.pattern.Pattern.{Pattern}
 use Rattle.engine.specs.declared.sequence.Sequence.{Sequence}
 
@@ -26,11 +27,12 @@ outcome a t =
       | Ok qs ↦ elim (refusal qs) [ Some c ↦ Err c | None ↦ Ok qs ]
     ]
 
--- a refusal with its cause, sequence and place; or memory ran out
-abbrev pub Refused : {E : Type 0} → Alphabet E → List ℕ → ℕ → Fault → Type 0
-Refused a t sequence f = (f.cause ≡ Memory) ⊎ ((outcome a t ≡ Err (f.cause, f.place)) × (f.sequence ≡ sequence))
+-- memory ran out, or a refusal has the cause, the sequence and the place
+abbrev pub Refused : {E : Type 0} → Alphabet E → List ℕ → ℕ → Failure → Type 0
+Refused a t sequence failure.Memory = Unit {0}
+Refused a t sequence (failure.Refused f) = (outcome a t ≡ Err (f.cause, f.place)) × (f.sequence ≡ sequence)
 
-abbrev pub Checked : {E : Type 0} → Alphabet E → List ℕ → ℕ → Result Pattern Fault → Type 0
+abbrev pub Checked : {E : Type 0} → Alphabet E → List ℕ → ℕ → Result Pattern Failure → Type 0
 Checked a t sequence (Ok p) = outcome a t ≡ Ok (held p)
 Checked a t sequence (Err f) = Refused a t sequence f
 
@@ -47,7 +49,7 @@ pub record CompiledFrom {E : Type 0} (a : Alphabet E) (t : List ℕ) (r : Refere
   pub reference : s.reference ≡ r
   pub offsets : (s.lo ≡ lo) × (s.hi ≡ hi)
 
-abbrev pub Compiled : {E : Type 0} → Alphabet E → List ℕ → ℕ → Reference → ℕ → ℕ → Result Sequence Fault → Type 0
+abbrev pub Compiled : {E : Type 0} → Alphabet E → List ℕ → ℕ → Reference → ℕ → ℕ → Result Sequence Failure → Type 0
 Compiled a t number r lo hi (Ok s) = CompiledFrom a t r lo hi s
 Compiled a t number r lo hi (Err f) = Refused a t number f
 
@@ -63,11 +65,11 @@ shown r fs zero index = None
 shown r fs (suc k) index = option_map (numbers r index) (slice_get fs k)
 
 -- what is shown of a text
-abbrev pub Shown : {E : Type 0} → Alphabet E → List ℕ → ℕ → Reference → ℕ → ℕ → ℕ → Result (Option (ℕ × ℕ × ℕ × ℕ)) Fault → Type 0
+abbrev pub Shown : {E : Type 0} → Alphabet E → List ℕ → ℕ → Reference → ℕ → ℕ → ℕ → Result (Option (ℕ × ℕ × ℕ × ℕ)) Failure → Type 0
 Shown a t number r lo fragment index (Ok o) = (items : List Placed) × (outcome a t ≡ Ok items) × (o ≡ shown r (fragments lo (oriented r items)) fragment index)
 Shown a t number r lo fragment index (Err f) = Refused a t number f
 
 -- whether a text, compiled, hits a reading
-abbrev pub Hit : {E : Type 0} → Alphabet E → List ℕ → ℕ → Reference → ℕ → ℕ → List ℕ → Result Bool Fault → Type 0
+abbrev pub Hit : {E : Type 0} → Alphabet E → List ℕ → ℕ → Reference → ℕ → ℕ → List ℕ → Result Bool Failure → Type 0
 Hit a t number r lo hi xs (Ok b) = (items : List Placed) × (outcome a t ≡ Ok items) × (b ≡ hits r lo hi (bodies items) xs)
 Hit a t number r lo hi xs (Err f) = Refused a t number f

@@ -1,12 +1,13 @@
-// Why a text, a sequence or a record is refused.
-ghost use Rattle.std.specs.Prelude.{◌≡◌};
-ghost use Rattle.engine.specs.Faults.{number};
-ghost use Rattle.engine.specs.declared.cause.Cause.TheVariants.{Memory};
+// Why a call has no answer.
+ghost use Rattle.std.specs.Prelude.{◌≡◌, Some};
+ghost use Rattle.engine.specs.Refusals.{line};
+ghost use Rattle.engine.specs.declared.fault.Failure.TheVariants.{Memory};
 
 use crate::cause::Cause;
-use std::alloc::{AllocError, AllocFailed};
+use std::alloc::AllocError;
+use std::fmt;
 
-// The cause, the number of the sequence (0 outside one), and the place. It goes up unchanged.
+// A refusal of an input: its cause, the number of the sequence (0 outside one), and the place. It goes up unchanged.
 #[derive(Clone, Copy, PartialEq, Eq, Debug)]
 pub struct Fault {
     pub cause: Cause,
@@ -14,40 +15,30 @@ pub struct Fault {
     pub place: usize,
 }
 
-impl Cause {
-    // The number by which a refusal is known; 0 for want of memory, which is no refusal of the input.
-    pub fn number(self) -> u8
-        ensures { result ≡ number self }
-    {
-        match self {
-            Cause::Memory => 0,
-            Cause::Grammar => 3,
-            Cause::Limit => 4,
-            Cause::NoLiteral => 5,
-        }
+// The refusal as a line: its numbers behind the word.
+impl fmt::Display for Fault {
+    ghost output = { λ fault. Some (line fault) };
+
+    fn fmt<W: fmt::Write>(&self, f: &mut fmt::Formatter<W>) -> fmt::Result {
+        let number = u8::from(self.cause);
+        let sequence = self.sequence;
+        let place = self.place;
+        write!(f, "refused {number} {sequence} {place}")
     }
 }
 
-impl From<AllocError> for Fault {
-    ghost from_gives = { λ _ r. r.cause ≡ Memory };
-
-    fn from(_e: AllocError) -> Fault {
-        Fault {
-            cause: Cause::Memory,
-            sequence: 0,
-            place: 0,
-        }
-    }
+// Why a call has no answer: there is no memory, or the input is refused.
+#[derive(Clone, Copy, PartialEq, Eq, Debug)]
+pub enum Failure {
+    Memory,
+    Refused(Fault),
 }
 
-impl<T: Drop> From<AllocFailed<T>> for Fault {
-    ghost from_gives = { λ _ r. r.cause ≡ Memory };
+// Whatever could not be allocated is want of memory.
+impl From<AllocError> for Failure {
+    ghost from_gives = { λ _ failure. failure ≡ Memory };
 
-    fn from(_e: AllocFailed<T>) -> Fault {
-        Fault {
-            cause: Cause::Memory,
-            sequence: 0,
-            place: 0,
-        }
+    fn from(_e: AllocError) -> Failure {
+        Failure::Memory
     }
 }

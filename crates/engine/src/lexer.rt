@@ -43,6 +43,7 @@ fn begins_pair<K: Kind>(first: u8) -> bool
 {
     (0..=u8::MAX).any(|second| K::named(first, second).is_some())
 }
+
 // How many digits a text begins with, up to four.
 fn digit_count(text: &[u8]) -> usize
     ensures { result ≡ prefix_len (within 48 57) (take 4 text.now) }

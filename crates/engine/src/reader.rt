@@ -1,11 +1,10 @@
 // Reads a pattern text into its items.
 ghost use Rattle.std.specs.Prelude.{◌≡◌};
 ghost use Rattle.engine.specs.Reading.{Read};
-ghost use Rattle.engine.specs.declared.cause.Cause.TheVariants.{Grammar};
 
 use crate::cause::Cause;
 use crate::context::Context;
-use crate::fault::Fault;
+use crate::fault::{Failure, Fault};
 use crate::lexer::Lexer;
 use crate::part::PlacedPart;
 use crate::pattern::Pattern;
@@ -14,20 +13,18 @@ use kinds::kind::Kind;
 use std::alloc::Global;
 
 // The refusal of a text at a place.
-fn refusal(sequence: u8, place: usize) -> Fault
-    ensures cause { result.cause ≡ Grammar }
-    ensures sequence { result.sequence ≡ sequence }
-    ensures place { result.place ≡ place }
+fn refusal(sequence: u8, place: usize) -> Failure
+    ensures { result ≡ Failure.Refused (record { cause = Cause.Grammar; sequence = sequence; place = place }) }
 {
-    Fault {
+    Failure::Refused(Fault {
         cause: Cause::Grammar,
         sequence,
         place,
-    }
+    })
 }
 
 // Reads a pattern text into its items.
-pub fn read<K: Kind>(heap: Global, sequence: u8, text: &[u8]) -> Result<Pattern, Fault>
+pub fn read<K: Kind>(heap: Global, sequence: u8, text: &[u8]) -> Result<Pattern, Failure>
     ensures { Read K.alphabet text.now sequence result }
 {
     let mut pattern = Pattern::new(heap);
@@ -36,10 +33,9 @@ pub fn read<K: Kind>(heap: Global, sequence: u8, text: &[u8]) -> Result<Pattern,
     let mut from = 0;
     loop {
         let place = lexer.place();
-        let next = match lexer.next::<K>(context.expects()) {
-            Ok(next) => next,
-            Err(stop) => return Err(refusal(sequence, stop.place)),
-        };
+        let next = lexer
+            .next::<K>(context.expects())
+            .map_err(|stop| refusal(sequence, stop.place))?;
         let Some(token) = next else {
             return if context.may_end() {
                 Ok(pattern)

@@ -14,7 +14,8 @@ use crate::token::{Punctuation, Token};
 use kinds::pattern::Direction;
 use std::alloc::AllocError;
 
-// What one token does: it cannot stand here, the item goes on, or the item is complete.
+// What one token does: it cannot stand here, the item goes on, or the item is complete. One case for each outcome of the
+// reader's definition: as an Option around the other two, the reader's one match would be two.
 #[derive(Clone, Copy)]
 pub enum Step {
     Stuck,

@@ -9,7 +9,7 @@ ghost use Rattle.kinds.specs.Fragments as spec;
 ghost use Rattle.kinds.specs.Grammar.{Placed};
 
 use crate::compile::fragments_of;
-use crate::fault::Fault;
+use crate::fault::{Failure, Fault};
 use crate::fragment::Fragment;
 use crate::limits::refusal;
 use crate::mirror::mirrored;
@@ -23,17 +23,17 @@ use kinds::reading::Reading;
 use std::alloc::Global;
 
 // A text's items, or its refusal.
-pub fn checked<K: Kind>(heap: Global, sequence: u8, text: &[u8]) -> Result<Pattern, Fault>
+pub fn checked<K: Kind>(heap: Global, sequence: u8, text: &[u8]) -> Result<Pattern, Failure>
     ensures { Checked K.alphabet text.now sequence result }
 {
     let pattern = read::<K>(heap, sequence, text)?;
     match refusal(&pattern) {
         None => Ok(pattern),
-        Some((cause, place)) => Err(Fault {
+        Some((cause, place)) => Err(Failure::Refused(Fault {
             cause,
             sequence,
             place,
-        }),
+        })),
     }
 }
 
@@ -55,7 +55,7 @@ pub fn compiled<K: Kind>(
     lo: u16,
     hi: u16,
     text: &[u8],
-) -> Result<Sequence, Fault>
+) -> Result<Sequence, Failure>
     ensures { Compiled K.alphabet text.now number reference lo hi result }
 {
     let pattern = in_order(checked::<K>(heap, number, text)?, reference);
@@ -96,7 +96,7 @@ pub fn show<K: Kind>(
     text: &[u8],
     number: usize,
     index: u8,
-) -> Result<Option<(u64, u64, usize, u32)>, Fault>
+) -> Result<Option<(u64, u64, usize, u32)>, Failure>
     ensures { Shown K.alphabet text.now 1 reference lo number index result }
 {
     let sequence = compiled::<K>(heap, 1, reference, lo, lo, text)?;
@@ -111,7 +111,7 @@ pub fn hit<R: Reading>(
     hi: u16,
     text: &[u8],
     reading: &R,
-) -> Result<bool, Fault>
+) -> Result<bool, Failure>
     ensures { Hit R.Element.alphabet text.now 1 reference lo hi (codes_of R.Element.alphabet (R.elements reading.now)) result }
 {
     let sequence = compiled::<R::Element>(heap, 1, reference, lo, hi, text)?;

@@ -1,8 +1,7 @@
 // The commands on pattern texts.
 use crate::complaint::Complaint;
 use crate::elements::elements_of;
-use engine::cause::Cause;
-use engine::fault::Fault;
+use engine::fault::Failure;
 use engine::limits::fragment_count;
 use engine::text;
 use engine::text::{checked, show};
@@ -68,7 +67,7 @@ pub fn read<K: Kind>(heap: Global, text: &str) -> Result<String, Complaint> {
             let count = fragment_count(&pattern);
             Ok(format!(in heap; "ok {count}")?)
         }
-        Err(fault) => refusal(heap, fault),
+        Err(failure) => refusal(heap, failure),
     }
 }
 
@@ -92,7 +91,7 @@ pub fn shown<K: Kind>(
     ) {
         Ok(Some((gap, lead, len, shift))) => Ok(format!(in heap; "{gap} {lead} {len} {shift}")?),
         Ok(None) => Ok(String::from_str(heap, "none")?),
-        Err(fault) => refusal(heap, fault),
+        Err(failure) => refusal(heap, failure),
     }
 }
 
@@ -110,22 +109,16 @@ pub fn hit<K: Kind>(heap: Global, sequence: Sequence, elements: &str) -> Result<
     ) {
         Ok(true) => Ok(String::from_str(heap, "hit")?),
         Ok(false) => Ok(String::from_str(heap, "miss")?),
-        Err(fault) => refusal(heap, fault),
+        Err(failure) => refusal(heap, failure),
     }
 }
 
 // A refusal as a line; want of memory is none.
-fn refusal(heap: Global, fault: Fault) -> Result<String, Complaint> {
-    let Fault {
-        cause,
-        sequence,
-        place,
-    } = fault;
-    if let Cause::Memory = cause {
-        return Err(Complaint::Memory(AllocError));
+fn refusal(heap: Global, failure: Failure) -> Result<String, Complaint> {
+    match failure {
+        Failure::Memory => Err(Complaint::Memory(AllocError)),
+        Failure::Refused(fault) => Ok(format!(in heap; "{fault}")?),
     }
-    let number = cause.number();
-    Ok(format!(in heap; "refused {number} {sequence} {place}")?)
 }
 
 fn number_of(word: &str) -> Result<u16, Complaint> {

@@ -1,99 +1,54 @@
-use Rattle.std.proofs.Common.{Err, vec_items, sym, ap, ◌∙◌, subst, inr, arith}
-use Rattle.engine.specs.Contexts.{context_behind, ContextWithin, StepLiesWithin}
-use Rattle.engine.specs.declared.context.Context.TheVariants.{Start}
-use Rattle.engine.proofs.Items.{SoFar, so_far_start, whole, broken_off, stopped, stuck_there, goes_within, completes, lexed_token, lexed_end, lexed_stop, behind_within}
+use Rattle.std.proofs.Common.{Err, vec_items, sym, refl, ap, ◌∙◌, subst}
+use Rattle.engine.specs.Contexts.{context_behind, expects_in, ContextWithin, StepLiesWithin}
+use Rattle.engine.specs.Reading.{Read}
+use Rattle.engine.specs.Tokens.{ReadsToken, Lexed}
+use Rattle.engine.proofs.Items.{SoFar, stuck_there, goes_within, completes, lexed_token, ok_before, behind_within}
+use Rattle.engine.proofs.reader.read.Given as given
 use Rattle.engine.proofs.reader.read.Goals as goal
+use Rattle.engine.proofs.reader.read.Goals.{In-Some}
 
-pub loop-next-init : goal.loop-next-init
-loop-next-init g c =
+-- the token that was read
+read : (g : given.Over) (c : In-Some g) → ReadsToken g.K.Kind.alphabet c.args.text.now (expects_in c.loop-pattern.context) c.loop-pattern.lexer.at.place c.in-Some.token c.next.new.self.at.place
+read g c =
     let a = g.K.Kind.alphabet in
-    let t = c.args.text.now in
-    let p = c.new-pattern.result in (
-      c.new-lexer.ensures.text,
-      tt,
-      subst (SoFar a t p Start 0) (sym c.new-lexer.ensures.place) (so_far_start a t p c.new-pattern.ensures.items),
-    )
-
-pub returns-in-Err : goal.returns-in-Err
-returns-in-Err g c =
-    let a = g.K.Kind.alphabet in
-    let t = c.args.text.now in
-    let l = c.loop-next in
-    let stop = c.in-Err.stop in
-    let stops = lexed_stop a l.invariant.0 c.expects.ensures l.lexer.at.place c.next.new.self.at.place stop c.in-Err.ensures.token in
-    let refused = stopped a t l.pattern l.context l.from l.lexer.at.place l.invariant.2 stop.place stops in
-    inr (refused ∙ ap Err (sym c.refusal.ensures.place), c.refusal.ensures.cause, c.refusal.ensures.sequence)
-
-pub returns-then-may_end : goal.returns-then-may_end
-returns-then-may_end g c =
-    let a = g.K.Kind.alphabet in
-    let t = c.args.text.now in
-    let l = c.loop-next in
-    let end = lexed_end a l.invariant.0 c.expects.ensures l.lexer.at.place c.next.new.self.at.place c.in_default.is c.in-Ok.ensures.token in
-    whole a t l.pattern l.context l.from l.lexer.at.place l.invariant.2 end (sym c.if-may_end.ensures)
-
-pub returns-else-may_end : goal.returns-else-may_end
-returns-else-may_end g c =
-    let a = g.K.Kind.alphabet in
-    let t = c.args.text.now in
-    let l = c.loop-next in
-    let end = lexed_end a l.invariant.0 c.expects.ensures l.lexer.at.place c.next.new.self.at.place c.in_default.is c.in-Ok.ensures.token in
-    let refused = broken_off a t l.pattern l.context l.from l.lexer.at.place l.invariant.2 end (sym c.if-may_end.ensures) in
-    inr (refused ∙ ap Err (sym (c.refusal-else-may_end.ensures.place ∙ c.place-place.ensures)), c.refusal-else-may_end.ensures.cause, c.refusal-else-may_end.ensures.sequence)
-
-pub advance-requires : goal.advance-requires
-advance-requires g c = c.loop-next.invariant.1
+    let l = c.loop-pattern in
+    let later = c.next.new.self.at.place in
+    let answered = subst (λ r. Lexed a l.lexer.at.text.now c.expects.result l.lexer.at.place r later) (ok_before c.next.result c.map_err.result c.in_ok-next.next _ c.map_err.ensures.cases c.map_err.ensures.variant c.in_ok-next.was) c.next.ensures.token in
+    lexed_token a l.invariant.0 c.expects.ensures l.lexer.at.place later c.in-Some.is answered
 
 pub returns-in-Stuck : goal.returns-in-Stuck
 returns-in-Stuck g c =
     let a = g.K.Kind.alphabet in
     let t = c.args.text.now in
-    let l = c.loop-next in
+    let l = c.loop-pattern in
     let later = c.next.new.self.at.place in
-    let read = lexed_token a l.invariant.0 c.expects.ensures l.lexer.at.place later c.in-Some.is c.in-Ok.ensures.token in
-    let refused = stuck_there a t l.pattern l.context l.from l.lexer.at.place l.invariant.2 g.met.K.Kind.lawful c.in-Some.token later read c.advance.new.pattern c.in_ok-advance.field-0 c.in_ok-advance.ensures c.in-Stuck.is in
-    inr (refused ∙ ap Err (sym (c.refusal-in-Stuck.ensures.place ∙ c.place-place.ensures)), c.refusal-in-Stuck.ensures.cause, c.refusal-in-Stuck.ensures.sequence)
+    let refused = stuck_there a t l.pattern l.context l.from l.lexer.at.place l.invariant.2 g.met.K.Kind.lawful c.in-Some.token later (read g (goal.at.returns-in-Stuck g c).In-Some) c.advance.new.pattern c.in_ok-advance.field-0 c.in_ok-advance.ensures c.in-Stuck.is in
+    subst (λ f. Read a t c.args.sequence (Err f)) (sym c.refusal-in-Stuck.ensures) (refused ∙ ap Err (sym c.place-place.ensures), refl, refl)
 
-pub loop-next-smaller-in-Within : goal.loop-next-smaller-in-Within
-loop-next-smaller-in-Within g c =
+pub loop-pattern-preserved-in-Within : goal.loop-pattern-preserved-in-Within
+loop-pattern-preserved-in-Within g c =
     let a = g.K.Kind.alphabet in
     let t = c.args.text.now in
-    let l = c.loop-next in
-    let read = lexed_token a l.invariant.0 c.expects.ensures l.lexer.at.place c.next.new.self.at.place c.in-Some.is c.in-Ok.ensures.token in
-    omega (arith, read.forward, read.inside)
-
-pub loop-next-preserved-in-Within : goal.loop-next-preserved-in-Within
-loop-next-preserved-in-Within g c =
-    let a = g.K.Kind.alphabet in
-    let t = c.args.text.now in
-    let l = c.loop-next in
+    let l = c.loop-pattern in
     let later = c.next.new.self.at.place in
     let after = c.advance.new.pattern in
     let to = c.in_ok-advance.ensures in
-    let read = lexed_token a l.invariant.0 c.expects.ensures l.lexer.at.place later c.in-Some.is c.in-Ok.ensures.token in (
+    let token = read g (goal.at.loop-pattern-preserved-in-Within g c).In-Some in (
       c.next.ensures.same_text ∙ l.invariant.0,
       subst (StepLiesWithin (vec_items after.codes) (vec_items after.runs)) c.in-Within.is to.within,
-      goes_within a t l.pattern l.context l.from l.lexer.at.place l.invariant.2 g.met.K.Kind.lawful c.in-Some.token later read after c.in_ok-advance.field-0 to c.in-Within.later c.in-Within.is,
+      goes_within a t l.pattern l.context l.from l.lexer.at.place l.invariant.2 g.met.K.Kind.lawful c.in-Some.token later token after c.in_ok-advance.field-0 to c.in-Within.later c.in-Within.is,
     )
 
-pub loop-next-smaller : goal.loop-next-smaller
-loop-next-smaller g c =
+pub loop-pattern-preserved : goal.loop-pattern-preserved
+loop-pattern-preserved g c =
     let a = g.K.Kind.alphabet in
     let t = c.args.text.now in
-    let l = c.loop-next in
-    let read = lexed_token a l.invariant.0 c.expects.ensures l.lexer.at.place c.next.new.self.at.place c.in-Some.is c.in-Ok.ensures.token in
-    omega (arith, read.forward, read.inside)
-
-pub loop-next-preserved : goal.loop-next-preserved
-loop-next-preserved g c =
-    let a = g.K.Kind.alphabet in
-    let t = c.args.text.now in
-    let l = c.loop-next in
+    let l = c.loop-pattern in
     let later = c.next.new.self.at.place in
     let last = c.push_part.new.self in
     let item = c.in-Complete.part in
-    let read = lexed_token a l.invariant.0 c.expects.ensures l.lexer.at.place later c.in-Some.is c.in-Ok.ensures.token in
-    let so_far = completes a t l.pattern l.context l.from l.lexer.at.place l.invariant.2 g.met.K.Kind.lawful c.in-Some.token later read c.advance.new.pattern c.in_ok-advance.field-0 c.in_ok-advance.ensures item c.in-Complete.is last c.in_ok-push_part-in-Complete.ensures in (
+    let token = read g (goal.at.loop-pattern-preserved g c).In-Some in
+    let so_far = completes a t l.pattern l.context l.from l.lexer.at.place l.invariant.2 g.met.K.Kind.lawful c.in-Some.token later token c.advance.new.pattern c.in_ok-advance.field-0 c.in_ok-advance.ensures item c.in-Complete.is last c.in_ok-push_part-in-Complete.ensures in (
       c.next.ensures.same_text ∙ l.invariant.0,
       subst (ContextWithin last) (sym c.behind-context.ensures) (behind_within last item),
       subst (λ k. SoFar a t last k c.place-from.result later) (sym c.behind-context.ensures)

@@ -1,5 +1,5 @@
 -- The least end through one place of an anchor, from the rows of what is reached on both sides of it.
-use Rattle.std.proofs.Common.{◌≡◌, ℕ, ◌+◌, ◌-◌, ◌<◌, ◌≤◌, true, ◌&&◌, ltb, leb, List, reverse, length, take, drop, Some, None, vec_items, vec_len, Decides, Option, sym, ap, ◌∙◌, subst, ap₂, ⊎_elim, arith}
+use Rattle.std.proofs.Common.{◌≡◌, ℕ, ◌+◌, ◌-◌, ◌<◌, ◌≤◌, true, ◌&&◌, ltb, leb, List, reverse, length, take, drop, Some, None, vec_len, Decides, Option, sym, ap, ◌∙◌, subst, ap₂, ⊎_elim, arith}
 use Rattle.std.specs.List.{AllByRecursion as All}
 use Rattle.std.proofs.lemmas.Bool.{both_ways, leb-true, le-leb, lt-ltb, and_parts, cases_lt}
 use Rattle.kinds.specs.Fragments.{Anchor}

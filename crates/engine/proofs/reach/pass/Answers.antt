@@ -1,12 +1,10 @@
 use Rattle.std.proofs.Common.{vec_items, sym, ap, ◌∙◌, subst}
-use lib.ListN.{length-map}
 use Rattle.kinds.specs.Patterns.{matches, other}
 use Rattle.engine.specs.Codes.{codes_of}
 use Rattle.engine.specs.Stored.{item_of}
 use Rattle.engine.specs.Reaching.{Stepped, range_item}
 use Rattle.engine.proofs.Reaching.{alike, others}
 use Rattle.engine.proofs.reach.pass.Goals as goal
-
 
 pub returns-in-Other : goal.returns-in-Other
 returns-in-Other g c =

@@ -17,7 +17,6 @@ pub struct Held<'a, K> {
 
 impl<'a, K: Kind> Held<'a, K> {
     // What a list holds, no further than a reading can show.
-    #[tactic(auto, using(std::proofs::lemmas::List::take_min))]
     pub fn new(items: &'a [K]) -> Held<'a, K>
         ensures { result.items.now ≡ shown items.now }
     {

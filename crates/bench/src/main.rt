@@ -53,6 +53,7 @@ fn refusal(heap: Global, failure: Failure) -> Result<String, Complaint> {
     }
 }
 
+// Prints the answer to the words of the call.
 fn run(rt: &HostRuntime) -> Result<(), Complaint> {
     let args: Vec<String> = env::args(rt)?.skip(1).collect(rt.alloc())?;
     let words: Vec<&str> = args.iter().map(|word| word.as_str()).collect(rt.alloc())?;

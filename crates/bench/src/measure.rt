@@ -13,6 +13,7 @@ pub struct Measure {
     len: u32,
 }
 
+// Runs a search a number of times, and times each.
 pub fn measured<R: Reading>(
     clock: &impl Clock,
     sequence: &Sequence,

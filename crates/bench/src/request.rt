@@ -37,6 +37,7 @@ pub fn request_of<'w>(words: &[&'w str]) -> Result<Option<Request<'w>>, Complain
     }))
 }
 
+// How often a search is run, as a word says it.
 fn runs_of(word: &str) -> Result<u32, Complaint> {
     word.parse()
         .ok()

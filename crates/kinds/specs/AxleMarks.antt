@@ -15,6 +15,7 @@ band n = record { digit = n % 10; decimal = omega arith }
 abbrev pub banded : ℕ → Option Band
 banded n = if nat_lt n 10 then Some (band n) else None
 
+-- the digit of a band
 abbrev pub digit_of : Band → ℕ
 digit_of b = b.digit
 
@@ -25,6 +26,7 @@ mark_of b =
     else if within 0x20 0x29 b.value then Dual (band (b.value - 0x20))
     else Unread
 
+-- U0 has the code 0, Sn the code 16 + n, Dn the code 32 + n
 abbrev pub mark_code : Mark → ℕ
 mark_code Unread = 0
 mark_code (Single b) = 16 + b.digit
@@ -39,6 +41,7 @@ mark_named letter digit =
     else if letter == 68 then Some (Dual (band (digit - 48)))
     else None
 
+-- the letter and the digit of a mark, as characters
 abbrev pub mark_pair : Mark → ℕ × ℕ
 mark_pair Unread = (85, 48)
 mark_pair (Single b) = (83, 48 + b.digit)
@@ -48,6 +51,7 @@ mark_pair (Dual b) = (68, 48 + b.digit)
 abbrev pub mark_text : Mark → List ℕ
 mark_text m = (mark_pair m).0 ∷ (mark_pair m).1 ∷ []
 
+-- axle marks as a kind
 abbrev pub mark_alphabet : Alphabet Mark
 mark_alphabet = record {
   code = mark_code;

@@ -21,6 +21,7 @@ of_digits None low = None
 of_digits (Some high) None = None
 of_digits (Some high) (Some low) = Some (byte (16 * high + low))
 
+-- bytes as a kind
 abbrev pub byte_alphabet : Alphabet Byte
 byte_alphabet = record {
   code = λ b. b.value;

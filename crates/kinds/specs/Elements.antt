@@ -16,6 +16,7 @@ use Rattle.kinds.specs.declared.mark.Mark.TheVariants.{Unread, Single, Dual}
 pub same_byte : (x y : Byte) → x.value ≡ y.value → x ≡ y
 same_byte x y e = λ i. record { value = e i; fits = is_prop→PathP (λ j. e j < 256) (λ j. le_prop) x.fits y.fits i }
 
+-- two bands of one digit are one
 pub same_band : (x y : Band) → x.digit ≡ y.digit → x ≡ y
 same_band x y e = λ i. record { digit = e i; decimal = is_prop→PathP (λ j. e j < 10) (λ j. le_prop) x.decimal y.decimal i }
 
@@ -23,14 +24,17 @@ same_band x y e = λ i. record { digit = e i; decimal = is_prop→PathP (λ j. e
 pub is_band : (x : Band) (n : ℕ) → x.digit ≡ n → x ≡ band n
 is_band x n e = same_band x (band n) (omega (arith, x.decimal))
 
+-- a hexadecimal digit is a digit or a letter
 pub hexadecimal_alphanumeric : (c n : ℕ) → hexadecimal c ≡ Some n → alphanumeric c ≡ true
 hexadecimal_alphanumeric c n e = grind (arith, nat_tests)
 
+-- the code of a mark fits 16 bits
 pub mark_code_fits : (m : Mark) → mark_code m < 65536
 mark_code_fits Unread = omega arith
 mark_code_fits (Single b) = omega (arith, b.decimal)
 mark_code_fits (Dual b) = omega (arith, b.decimal)
 
+-- two marks of one code are one
 pub mark_code_tells : (m n : Mark) → mark_code m ≡ mark_code n → m ≡ n
 mark_code_tells Unread Unread e = refl
 mark_code_tells Unread (Single b) e = absurd (omega arith)
@@ -42,6 +46,7 @@ mark_code_tells (Dual a) Unread e = absurd (omega arith)
 mark_code_tells (Dual a) (Single b) e = absurd (omega (arith, b.decimal))
 mark_code_tells (Dual a) (Dual b) e = ap Dual (same_band a b (omega arith))
 
+-- a pair that names a mark is of a letter and a digit
 pub mark_named_alphanumeric : (letter digit : ℕ) (m : Mark) → mark_named letter digit ≡ Some m → (alphanumeric letter ≡ true) × (alphanumeric digit ≡ true)
 mark_named_alphanumeric letter digit m e = (grind (arith, nat_tests), grind (arith, nat_tests))
 
@@ -58,12 +63,14 @@ digits_alphanumeric first second x = go (hexadecimal first) (hexadecimal second)
 named_at : (c : ℕ) → 48 ≤ c → c ≤ 57 → (mark_named 83 c ≡ Some (Single (band (c - 48)))) × (mark_named 68 c ≡ Some (Dual (band (c - 48))))
 named_at c low high = (grind (arith, nat_tests), grind (arith, nat_tests))
 
+-- S and the digit of a band name the single tyre of that band
 named_single : (b : Band) (c : ℕ) → c ≡ 48 + b.digit → mark_named 83 c ≡ Some (Single b)
 named_single b c e =
     let within : b.digit < 10 = b.decimal in
     let own : band (c - 48) ≡ b = sym (is_band b (c - 48) (omega arith)) in
     (named_at c (omega arith) (omega arith)).0 ∙ ap (λ t. Some (Single t)) own
 
+-- D and the digit of a band name the dual tyre of that band
 named_dual : (b : Band) (c : ℕ) → c ≡ 48 + b.digit → mark_named 68 c ≡ Some (Dual b)
 named_dual b c e =
     let within : b.digit < 10 = b.decimal in
@@ -76,7 +83,7 @@ mark_pair_names Unread = refl
 mark_pair_names (Single b) = named_single b _ refl
 mark_pair_names (Dual b) = named_dual b _ refl
 
--- the laws of bytes and of marks as kinds
+-- the law of a kind, for bytes
 pub byte_lawful : Lawful byte_alphabet
 byte_lawful = record {
   code_fits = λ x. omega (arith, x.fits);
@@ -88,6 +95,7 @@ byte_lawful = record {
   records_differ = λ e. omega arith;
 }
 
+-- the law of a kind, for axle marks
 pub mark_lawful : Lawful mark_alphabet
 mark_lawful = record {
   code_fits = mark_code_fits;

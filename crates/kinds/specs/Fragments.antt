@@ -8,11 +8,13 @@ use Rattle.kinds.specs.declared.pattern.Reference.TheVariants.{Front, Back, Anyw
 
 -- Lengths.
 
+-- the length of the shortest of some runs
 abbrev pub shortest : List (List ℕ) → ℕ
 shortest [] = 0
 shortest (run ∷ []) = length run
 shortest (run ∷ next ∷ runs) = min (length run) (shortest (next ∷ runs))
 
+-- the length of the longest of some runs
 abbrev pub longest : List (List ℕ) → ℕ
 longest [] = 0
 longest (run ∷ runs) = max (length run) (longest runs)
@@ -36,12 +38,14 @@ span (other run) = length run
 span (gap m (Some n)) = n
 span (gap m None) = 0
 
+-- the sum of a number of each item
 abbrev pub sum : (Item → ℕ) → List Placed → ℕ
 sum f [] = 0
 sum f (q ∷ qs) = f q.item + sum f qs
 
 -- Fragments.
 
+-- an item is a gap
 abbrev pub is_gap : Item → Bool
 is_gap (literal c) = false
 is_gap any = false
@@ -60,6 +64,7 @@ endless (other run) = false
 endless (gap m (Some n)) = false
 endless (gap m None) = true
 
+-- some item passes a test
 abbrev pub some : (Item → Bool) → List Placed → Bool
 some p [] = false
 some p (q ∷ qs) = p q.item || some p qs
@@ -128,6 +133,7 @@ fragment_place number found (f ∷ fs) =
 abbrev pub limit_place : List Placed → Option ℕ
 limit_place qs = fragment_place 0 (wrong_place None qs) (fragments 0 qs)
 
+-- an item is a literal
 abbrev pub is_literal : Item → Bool
 is_literal (literal c) = true
 is_literal any = false
@@ -167,6 +173,7 @@ abbrev pub ended : List Item → List ℕ → List Item → List Anchor
 ended front [] back = []
 ended front (c ∷ cs) back = record { front = front; codes = c ∷ cs; back = back } ∷ []
 
+-- the code of a literal, and none of another item
 abbrev pub literal_code : Item → Option ℕ
 literal_code (literal c) = Some c
 literal_code any = None
@@ -190,6 +197,7 @@ better Front old new = nat_le (length old.codes) (length new.codes)
 better Back old new = nat_lt (length old.codes) (length new.codes)
 better Anywhere old new = nat_le (length old.codes) (length new.codes)
 
+-- the best of some runs
 abbrev pub best : Reference → Anchor → List Anchor → Anchor
 best r old [] = old
 best r old (new ∷ more) = best r (if better r old new then new else old) more
@@ -198,6 +206,7 @@ best r old (new ∷ more) = best r (if better r old new then new else old) more
 abbrev pub anchor : Reference → List Item → Anchor
 anchor r items = best r (record { front = items; codes = []; back = [] }) (literal_runs [] [] items)
 
+-- the sum of the least lengths of items
 abbrev pub sum_least : List Item → ℕ
 sum_least [] = 0
 sum_least (i ∷ is) = least i + sum_least is
@@ -211,6 +220,7 @@ abbrev pub distances : List ℕ → ℕ → List ℕ
 distances [] index = []
 distances (c ∷ cs) index = if c % 256 == index then suc (length cs) ∷ distances cs index else distances cs index
 
+-- the smallest of a number and some others
 abbrev pub smallest : ℕ → List ℕ → ℕ
 smallest n [] = n
 smallest n (m ∷ ms) = smallest (min n m) ms

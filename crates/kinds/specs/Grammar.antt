@@ -19,6 +19,7 @@ abbrev pub followed_by : ℕ → List ℕ → ℕ
 followed_by n [] = n
 followed_by n (d ∷ ds) = followed_by (10 * n + (d - 48)) ds
 
+-- one to four digits say a number
 abbrev pub Number : ℕ → List ℕ → Type 0
 Number n t = (1 ≤ length t) × (length t ≤ 4) × Digits t × (n ≡ followed_by 0 t)
 
@@ -80,16 +81,19 @@ module _ {E : Type 0} (a : Alphabet E) where
 pub data Position : Type 0 where
   start after_thing after_gap : Position
 
+-- a gap may stand at a position
 abbrev pub gap_allowed : Position → Bool
 gap_allowed start = false
 gap_allowed after_thing = true
 gap_allowed after_gap = true
 
+-- a text may end at a position
 abbrev pub may_end : Position → Bool
 may_end start = false
 may_end after_thing = true
 may_end after_gap = false
 
+-- an item may stand at a position
 abbrev pub allowed : Position → Item → Bool
 allowed p (literal c) = true
 allowed p any = true
@@ -98,6 +102,7 @@ allowed p (range d inside low high) = true
 allowed p (other run) = true
 allowed p (gap least most) = gap_allowed p
 
+-- the position behind an item
 abbrev pub behind : Item → Position
 behind (literal c) = after_thing
 behind any = after_thing
@@ -106,6 +111,7 @@ behind (range d inside low high) = after_thing
 behind (other run) = after_thing
 behind (gap least most) = after_gap
 
+-- each item may stand where it stands, and the last may end the text
 abbrev pub Ordered : Position → List Placed → Type 0
 Ordered p [] = may_end p ≡ true
 Ordered p (q ∷ qs) = (allowed p q.item ≡ true) × Ordered (behind q.item) qs

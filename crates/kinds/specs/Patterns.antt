@@ -35,10 +35,12 @@ UpTo (x ∷ xs) (y ∷ ys) = (x < y) ⊎ ((x ≡ y) × UpTo xs ys)
 abbrev pub Between : Direction → List ℕ → List ℕ → List ℕ → Type 0
 Between d low high xs = UpTo (compared d low) (compared d xs) × UpTo (compared d xs) (compared d high)
 
+-- a list is one of some runs
 abbrev pub Among : List ℕ → List (List ℕ) → Type 0
 Among xs [] = ⊥
 Among xs (run ∷ runs) = (xs ≡ run) ⊎ Among xs runs
 
+-- a number is at most another, or there is no bound
 abbrev pub AtMost : Option ℕ → ℕ → Type 0
 AtMost None n = ⊤
 AtMost (Some most) n = n ≤ most
@@ -75,28 +77,34 @@ pub record Placement (r : Reference) (lo hi : ℕ) (items : List Item) (xs : Lis
 
 -- The decision, which computes.
 
+-- two lists are equal
 abbrev pub same : List ℕ → List ℕ → Bool
 same [] [] = true
 same [] (y ∷ ys) = false
 same (x ∷ xs) [] = false
 same (x ∷ xs) (y ∷ ys) = x == y && same xs ys
 
+-- one list comes before another of its length, or is the same
 abbrev pub up_to : List ℕ → List ℕ → Bool
 up_to [] ys = true
 up_to (x ∷ xs) [] = false
 up_to (x ∷ xs) (y ∷ ys) = nat_lt x y || (x == y && up_to xs ys)
 
+-- a list lies from low to high
 abbrev pub between : Direction → List ℕ → List ℕ → List ℕ → Bool
 between d low high xs = up_to (compared d low) (compared d xs) && up_to (compared d xs) (compared d high)
 
+-- a list is one of some runs
 abbrev pub among : List ℕ → List (List ℕ) → Bool
 among xs [] = false
 among xs (run ∷ runs) = same xs run || among xs runs
 
+-- a number is at most another, or there is no bound
 abbrev pub at_most : Option ℕ → ℕ → Bool
 at_most None n = true
 at_most (Some most) n = nat_le n most
 
+-- an item matches a list
 abbrev pub matches : Item → List ℕ → Bool
 matches (literal c) xs = same xs (c ∷ [])
 matches any xs = length xs == 1
@@ -111,15 +119,18 @@ abbrev pub split : (List ℕ → Bool) → (List ℕ → Bool) → List ℕ → 
 split p q [] = p [] && q []
 split p q (x ∷ xs) = (p [] && q (x ∷ xs)) || split (λ front. p (x ∷ front)) q xs
 
+-- items cut a list
 abbrev pub cuts : List Item → List ℕ → Bool
 cuts [] xs = same xs []
 cuts (i ∷ is) xs = split (matches i) (cuts is) xs
 
+-- so many elements may stand before a placement
 abbrev pub before_allowed : Reference → ℕ → ℕ → ℕ → Bool
 before_allowed Front lo hi n = within lo hi n
 before_allowed Back lo hi n = true
 before_allowed Anywhere lo hi n = true
 
+-- so many elements may stand behind a placement
 abbrev pub after_allowed : Reference → ℕ → ℕ → ℕ → Bool
 after_allowed Front lo hi n = true
 after_allowed Back lo hi n = within lo hi n
@@ -141,10 +152,12 @@ abbrev pub turned : Direction → Direction
 turned FirstOn = LastOn
 turned LastOn = FirstOn
 
+-- runs, each from its last code to its first
 abbrev pub reversed_runs : List (List ℕ) → List (List ℕ)
 reversed_runs [] = []
 reversed_runs (run ∷ runs) = reverse run ∷ reversed_runs runs
 
+-- an item that matches the reversed lists
 abbrev pub mirrored_item : Item → Item
 mirrored_item (literal c) = literal c
 mirrored_item any = any
@@ -153,10 +166,12 @@ mirrored_item (range d inside low high) = range (turned d) inside (reverse low) 
 mirrored_item (other run) = other (reverse run)
 mirrored_item (gap least most) = gap least most
 
+-- items that cut the reversed lists
 abbrev pub mirrored : List Item → List Item
 mirrored [] = []
 mirrored (i ∷ is) = mirrored is ++ (mirrored_item i ∷ [])
 
+-- the other end of a reading
 abbrev pub turned_reference : Reference → Reference
 turned_reference Front = Back
 turned_reference Back = Front

@@ -42,9 +42,11 @@ unfoldable pub some_below : (ℕ → Bool) → ℕ → Bool
 some_below p zero = false
 some_below p (suc n) = if p n then true else some_below p n
 
+-- a run has a code
 abbrev pub begun : List ℕ → Bool
 begun cs = nat_lt 0 (length cs)
 
+-- what comes next if a test passes
 abbrev pub only_if : Bool → Next → Next
 only_if true n = n
 only_if false n = stuck
@@ -66,10 +68,12 @@ module _ {E : Type 0} (a : Alphabet E) where
   with_code (digits n k v) c = stuck
   with_code (endless m) c = stuck
 
+  -- an element is read in a state, if a pair names one
   abbrev pub with_element : State → Option E → Next
   with_element s None = stuck
   with_element s (Some x) = with_code s (a.code x)
 
+  -- the first character of a pair is read in a state
   abbrev pub pair_in : State → ℕ → Next
   pair_in s c = only_if (leads c) (goes_on (half s c))
 
@@ -78,10 +82,12 @@ module _ {E : Type 0} (a : Alphabet E) where
   closed least v = gap v (Some v)
   closed (most m) v = gap m (Some v)
 
+  -- a sign is read behind the digits of a number
   abbrev pub behind_digits : Numeral → ℕ → ℕ → ℕ → Next
   behind_digits least k v c = only_if (c == 45 && nat_lt 0 k) (goes_on (digits (most v) 0 0))
   behind_digits (most m) k v c = only_if (c == 42 && k == 0) (goes_on (endless m))
 
+  -- one character is read in a state
   abbrev pub next : State → ℕ → Next
   next (between p) c =
       if c == 63 then goes_on asked
@@ -110,6 +116,7 @@ module _ {E : Type 0} (a : Alphabet E) where
       else behind_digits n k v c
   next (endless m) c = only_if (c == 125) (complete (gap m None))
 
+  -- a text may end in a state
   abbrev pub finished : State → Bool
   finished (between p) = may_end p
   finished asked = false
@@ -121,6 +128,7 @@ module _ {E : Type 0} (a : Alphabet E) where
   finished (digits n k v) = false
   finished (endless m) = false
 
+  -- an item before what the rest of a text gives
   abbrev pub in_front : Placed → Result (List Placed) ℕ → Result (List Placed) ℕ
   in_front q (Ok qs) = Ok (q ∷ qs)
   in_front q (Err n) = Err n
@@ -136,6 +144,7 @@ module _ {E : Type 0} (a : Alphabet E) where
         | complete i ↦ in_front (record { place = from; item = i }) (follow (between (behind i)) (place + 1) (place + 1) t)
       ]
 
+  -- the items of a text, or the place where it stops
   abbrev pub items_of : List ℕ → Result (List Placed) ℕ
   items_of t = follow (between start) 0 0 t
 

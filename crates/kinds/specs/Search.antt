@@ -22,6 +22,7 @@ least_end_from items from until xs e zero = None
 least_end_from items from until xs e (suc k) =
     elim (ends_at items from until xs e (suc e)) [ true ↦ Some e | false ↦ least_end_from items from until xs (suc e) k ]
 
+-- the least end of such a placement in a list, or none
 abbrev pub least_end : List Item → ℕ → Option ℕ → List ℕ → Option ℕ
 least_end items from until xs = least_end_from items from until xs 0 (suc (length xs))
 
@@ -58,6 +59,7 @@ abbrev pub first_fit_from : List ℕ → List ℕ → ℕ → ℕ → Option ℕ
 first_fit_from codes xs place zero = None
 first_fit_from codes xs place (suc k) = elim (stands_at codes xs place) [ true ↦ Some place | false ↦ first_fit_from codes xs (suc place) k ]
 
+-- the first place, from one on, where codes stand in a list
 abbrev pub first_fit : List ℕ → List ℕ → ℕ → Option ℕ
 first_fit codes xs from = first_fit_from codes xs from (suc (length xs) - from)
 

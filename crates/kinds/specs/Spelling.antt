@@ -18,6 +18,7 @@ spelled_from a place [] = Ok []
 spelled_from a place (first ∷ []) = Err Odd
 spelled_from a place (first ∷ second ∷ rest) = in_front place (a.named first second) (spelled_from a (place + 2) rest)
 
+-- the elements that a text spells, or its fault
 abbrev pub spelled : {E : Type 0} → Alphabet E → List ℕ → Result (List E) SpellingFault
 spelled a text = spelled_from a 0 text
 

@@ -10,6 +10,7 @@ pub struct Backward<R> {
 }
 
 impl<R: Reading> Backward<R> {
+    // A reading, which is handed over, from its last element on.
     pub fn new(forward: R) -> Backward<R>
         ensures { result.forward ≡ forward }
     {

@@ -13,6 +13,7 @@ pub struct Marks<R> {
 }
 
 impl<R: Reading<Element = Byte>> Marks<R> {
+    // The marks over a reading, which is handed over.
     pub fn new(bytes: R) -> Marks<R>
         ensures { result.bytes ≡ bytes }
     {

@@ -20,6 +20,7 @@ pub enum SpellingFault {
     Memory,
 }
 
+// What is wrong, for whoever wrote the text.
 impl fmt::Display for SpellingFault {
     ghost output = { λ fault. Some (fault_text fault) };
 

@@ -28,6 +28,7 @@ enum Command<'l> {
 }
 
 impl Command<'_> {
+    // The answer over elements of a kind.
     fn answer<K: Kind>(self, heap: Global) -> Result<String, Complaint> {
         match self {
             Command::Codes(order, elements) => codes::<K>(heap, order, elements),
@@ -40,6 +41,7 @@ impl Command<'_> {
     }
 }
 
+// The answer to a line.
 pub fn answer(heap: Global, line: &str) -> Result<String, Complaint> {
     if line.is_empty() {
         return Err(Complaint::EmptyLine);
@@ -53,22 +55,12 @@ pub fn answer(heap: Global, line: &str) -> Result<String, Complaint> {
         ["codes", kind, elements] => (kind, Command::Codes(Order::Forward, elements)),
         ["backward", kind, elements] => (kind, Command::Codes(Order::Backward, elements)),
         ["read", kind, text] => (kind, Command::Read(text)),
-        ["show", kind, reference, lo, hi, text, fragment, index] => {
-            let sequence = Sequence {
-                reference,
-                lo,
-                hi,
-                text,
-            };
+        ["show", kind, sequence @ .., fragment, index] => {
+            let sequence = Sequence::try_from(sequence)?;
             (kind, Command::Show(sequence, fragment, index))
         }
-        ["hit", kind, reference, lo, hi, text, elements] => {
-            let sequence = Sequence {
-                reference,
-                lo,
-                hi,
-                text,
-            };
+        ["hit", kind, sequence @ .., elements] => {
+            let sequence = Sequence::try_from(sequence)?;
             (kind, Command::Hit(sequence, elements))
         }
         ["codes" | "backward" | "marks" | "read" | "show" | "hit", ..] => {
@@ -88,6 +80,7 @@ fn of_kind(heap: Global, kind: &str, command: Command) -> Result<String, Complai
     }
 }
 
+// The codes of elements, in an order.
 fn codes<K: Kind>(heap: Global, order: Order, word: &str) -> Result<String, Complaint> {
     let elements: Vec<K> = elements_of(heap, word)?;
     let held = Held::new(elements.as_slice());

@@ -15,10 +15,26 @@ use std::str::FromStr;
 // A sequence as a line gives it.
 #[derive(Clone, Copy)]
 pub struct Sequence<'l> {
-    pub reference: &'l str,
-    pub lo: &'l str,
-    pub hi: &'l str,
-    pub text: &'l str,
+    reference: &'l str,
+    lo: &'l str,
+    hi: &'l str,
+    text: &'l str,
+}
+
+impl<'l> TryFrom<&[&'l str]> for Sequence<'l> {
+    type Error = Complaint;
+
+    fn try_from(words: &[&'l str]) -> Result<Sequence<'l>, Complaint> {
+        let [reference, lo, hi, text] = words else {
+            return Err(Complaint::NumberOfWords);
+        };
+        Ok(Sequence {
+            reference,
+            lo,
+            hi,
+            text,
+        })
+    }
 }
 
 // A reference with its least and greatest offset.
@@ -121,6 +137,7 @@ fn refusal(heap: Global, failure: Failure) -> Result<String, Complaint> {
     }
 }
 
+// An offset, or the number of a fragment.
 fn number_of(word: &str) -> Result<u16, Complaint> {
     word.parse().map_err(|_| Complaint::NotANumber)
 }

@@ -6,6 +6,7 @@ ghost use Rattle.kinds.specs.Elements.{byte_lawful};
 use crate::byte::Byte;
 use crate::kind::Kind;
 
+// The byte of a value.
 impl From<u8> for Byte {
     ghost from_gives = { λ value made. made ≡ byte value };
 
@@ -14,6 +15,7 @@ impl From<u8> for Byte {
     }
 }
 
+// The value of a byte.
 impl From<Byte> for u8 {
     ghost from_gives = { λ byte value. value ≡ byte.value };
 

@@ -25,7 +25,7 @@ impl fmt::Display for NotADigit {
 impl Error for NotADigit {}
 
 impl Band {
-    // The band of a digit.
+    // The band of a number that is a digit.
     pub(super) fn of_digit(digit: u8) -> Band
         requires { digit < 10 }
         ensures { result ≡ band digit }
@@ -34,6 +34,7 @@ impl Band {
     }
 }
 
+// The band of a number, if it is a digit.
 impl TryFrom<u8> for Band {
     type Error = NotADigit;
 
@@ -48,6 +49,7 @@ impl TryFrom<u8> for Band {
     }
 }
 
+// The digit of a band.
 impl From<Band> for u8 {
     ghost from_gives = { λ band digit. digit ≡ digit_of band };
 

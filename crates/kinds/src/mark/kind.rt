@@ -44,6 +44,7 @@ impl Mark {
     }
 }
 
+// A mark is printed as its pair.
 impl fmt::Display for Mark {
     ghost output = { λ mark. Some (mark_text mark) };
 

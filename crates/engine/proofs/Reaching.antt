@@ -182,10 +182,6 @@ among_more : (runs : List (List ℕ)) (run ys : List ℕ) → among ys (runs ++ 
 among_more [] run ys = grind (arith, nat_tests)
 among_more (r ∷ runs) run ys = let e = among_more runs run ys in grind (arith, nat_tests)
 
--- no run leads anywhere
-pub group_none : (row : Row) (xs : List ℕ) (on : Row) → ((j : ℕ) → member on j ≡ false) → Stepped (group []) row xs on
-group_none row xs on none j = (λ e. absurd (both_ways (member on j) (none j) e), λ led. absurd (both_ways false refl led.matched))
-
 -- a group with one run more leads where it did and where the run does
 pub group_more : (runs : List (List ℕ)) (run : List ℕ) (row : Row) (xs : List ℕ) (on by all : Row) → Stepped (group runs) row xs on
     → Stepped (range FirstOn true run run) row xs by → ((j : ℕ) → member all j ≡ (member on j || member by j))

@@ -1,5 +1,5 @@
-use Rattle.std.proofs.Common.{true, map, get_or, take, vec_items, sym, ap, ◌∙◌, subst, arith}
-use Rattle.std.proofs.lemmas.List.{map_more, take_all}
+use Rattle.std.proofs.Common.{true, map, get_or, take, vec_items, sym, ap, ◌∙◌, subst}
+use Rattle.std.proofs.lemmas.List.{map_more}
 use Rattle.kinds.specs.Patterns.{group, range}
 use Rattle.kinds.specs.declared.pattern.Direction.TheVariants.{FirstOn}
 use Rattle.engine.specs.Codes.{codes_of}
@@ -7,11 +7,8 @@ use Rattle.engine.specs.Stored.{run_codes}
 use Rattle.engine.specs.Reaching.{Stepped}
 use Rattle.engine.specs.declared.run.Run.{Run}
 use Rattle.engine.proofs.Lengths.{run_at_within}
-use Rattle.engine.proofs.Reaching.{group_none, group_more}
+use Rattle.engine.proofs.Reaching.{group_more}
 use Rattle.engine.proofs.reach.pass_group.Goals as goal
-
-pub loop-run-init : goal.loop-run-init
-loop-run-init g c = group_none c.args.row.now (codes_of g.R.Element.Kind.alphabet (g.R.Reading.elements c.args.reading.now)) c.none-all.result c.none-all.ensures
 
 pub run_codes-requires : goal.run_codes-requires
 run_codes-requires g c = run_at_within (vec_items c.args.pattern.now.codes) c.args.runs.now c.loop-run.run-index (record { start = 0; len = 0 }) c.requires c.loop-run-test.true
@@ -27,10 +24,3 @@ loop-run-preserved g c =
     (group_more (map f (take i rs)) (f (get_or rs i none)) c.args.row.now all c.loop-run.all c.pass.new.row c.union-all.result c.loop-run.invariant
     (subst (λ item. Stepped item c.args.row.now all c.pass.new.row) (c.of_one.ensures ∙ ap (λ run. range FirstOn true run run) c.run_codes.ensures) c.pass.ensures)
     c.union-all.ensures)
-
-pub returns : goal.returns
-returns g c =
-    subst
-    (λ rs. Stepped (group (map (run_codes (vec_items c.args.pattern.now.codes)) rs)) c.args.row.now (codes_of g.R.Element.Kind.alphabet (g.R.Reading.elements c.args.reading.now)) c.loop-run.all)
-    (take_all c.loop-run.run-index c.args.runs.now (omega arith))
-    c.loop-run.invariant

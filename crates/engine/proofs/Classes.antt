@@ -5,8 +5,8 @@ use Rattle.kinds.specs.Grammar.{start, after_thing, after_gap}
 use Rattle.kinds.specs.Patterns.{any, gap}
 use Rattle.kinds.specs.Reader.{State, between, asked, half, alternatives, bracket, low, high, digits, endless, Next, stuck, goes_on, complete, leads, with_code, with_element, pair_in, next, follow}
 use Rattle.kinds.specs.Reader.{least as lower}
-use Rattle.engine.specs.Scanning.{standing, GoesOn, NoPair}
-use Rattle.engine.specs.Tokens.{expected, class_of, character, continued, Completes, Stops, ReadsToken, StopsExpecting}
+use Rattle.engine.specs.Scanning.{standing, GoesOn}
+use Rattle.engine.specs.Tokens.{expected, class_of, character, continued, Completes, ReadsToken}
 use Rattle.engine.specs.declared.token.Class.{Class}
 use Rattle.engine.specs.declared.token.Class.TheVariants.{Mark, Question, Star, Brace, Pair, Misplaced}
 use Rattle.engine.specs.declared.token.Expects.{Expects}
@@ -14,9 +14,9 @@ use Rattle.engine.specs.declared.token.Expects.TheVariants as expects
 use Rattle.engine.specs.declared.token.Gap.{Gap}
 use Rattle.engine.specs.declared.token.Punctuation.{Punctuation}
 use Rattle.engine.specs.declared.token.Token.TheVariants as token
-use Rattle.engine.proofs.Gaps.{stands_true, stands_false}
+use Rattle.engine.proofs.Gaps.{stands_true}
 use Rattle.kinds.proofs.Texts.{pair_leads}
-use Rattle.engine.proofs.Machine.{only_false, only_true, step_by, stops_here}
+use Rattle.engine.proofs.Machine.{only_true, step_by}
 
 same_expected : {e f : Expects} → Some e ≡ Some f → e ≡ f
 same_expected h = cc
@@ -81,9 +81,6 @@ module _ {E : Type 0} (a : Alphabet E) where
       reads = λ s from h. class_steps Star is s from h ∙ ap (λ i. continued a (complete i) from place (place + 1) (drop (place + 1) t)) (λ i. gap (sym zero_least i) (sym none i));
     }
 
-    pub misplaced_stops : class_of e (get_or t place 0) ≡ Misplaced → StopsExpecting a t e place place
-    misplaced_stops is s h from = class_steps Misplaced is s from h
-
     -- two question marks, or one
     pub question_reads : class_of e (get_or t place 0) ≡ Question → standing t (place + 1) 63 ≡ true → ReadsToken a t e place token.Any (place + 2)
     question_reads is again =
@@ -97,10 +94,6 @@ module _ {E : Type 0} (a : Alphabet E) where
               ∙ ap (λ p. continued a (complete any) from place p (drop p t)) on;
         }
 
-    pub question_stops : class_of e (get_or t place 0) ≡ Question → standing t (place + 1) 63 ≡ false → StopsExpecting a t e place (place + 1)
-    question_stops is again s h from =
-        class_steps Question is s from h ∙ stops_here a t asked (place + 1) refl (λ i. only_false _ _ (stands_false t (place + 1) 63 again i)) from
-
     -- a gap in braces
     pub brace_reads : (g : Gap) (later : ℕ) → class_of e (get_or t place 0) ≡ Brace → Completes a t (digits lower 0 0) (place + 1) (gap g.least g.most) later → ReadsToken a t e place (token.Gap g) later
     brace_reads g later is h = record {
@@ -108,9 +101,6 @@ module _ {E : Type 0} (a : Alphabet E) where
       inside = h.inside;
       reads = λ s from x. class_steps Brace is s from x ∙ h.reads from;
     }
-
-    pub brace_stops : (at : ℕ) → class_of e (get_or t place 0) ≡ Brace → Stops a t (digits lower 0 0) (place + 1) at → StopsExpecting a t e place at
-    brace_stops at is h s x from = class_steps Brace is s from x ∙ h from
 
     -- a literal
     pub literal_reads : Lawful a → (pair : Bor (List ℕ)) (at code later : ℕ) → class_of e (get_or t place 0) ≡ Pair → GoesOn a (get_or t place 0) t (place + 1) (code, later) → ReadsToken a t e place (token.Literal pair at code) later
@@ -127,15 +117,3 @@ module _ {E : Type 0} (a : Alphabet E) where
               ∙ code_goes_on s e x code from (place + 1) place (place + 1 + 1) (drop (place + 1 + 1) t)
               ∙ ap (λ p. continued a (with_code a s code) from place p (drop p t)) (sym h.2);
         }
-
-    -- the first character leads nowhere
-    pub unled_stops : class_of e (get_or t place 0) ≡ Pair → leads a (get_or t place 0) ≡ false → StopsExpecting a t e place place
-    unled_stops is none s x from =
-        class_steps Pair is s from x ∙ ap (λ n. continued a n from place (place + 1) (drop (place + 1) t)) (only_false _ _ none)
-
-    -- the second character does not follow
-    pub half_stops : class_of e (get_or t place 0) ≡ Pair → leads a (get_or t place 0) ≡ true → NoPair a (get_or t place 0) t (place + 1) → StopsExpecting a t e place (place + 1)
-    half_stops is led none s x from =
-        class_steps Pair is s from x
-        ∙ ap (λ n. continued a n from place (place + 1) (drop (place + 1) t)) (only_true _ _ led)
-        ∙ stops_here a t (half s (get_or t place 0)) (place + 1) refl (λ i. ap (with_element a s) (none i)) from

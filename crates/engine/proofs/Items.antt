@@ -1,18 +1,16 @@
 -- How the items of a text come together while it is read, token by token.
-use Rattle.std.proofs.Common.{◌≡◌, ℕ, true, false, List, [], ◌∷◌, ◌++◌, length, drop, Some, None, Ok, Err, vec_items, is_ok, MatchResult, Option, Result, sym, refl, ap, ◌∙◌, subst, ⊎_elim, append_assoc, append-nil, arith}
-use Rattle.std.proofs.lemmas.List.{drop_all}
-use Rattle.std.proofs.lemmas.Bool.{cases_Bool, cond-true, cond-false, both_ways}
+use Rattle.std.proofs.Common.{◌≡◌, ℕ, false, List, [], ◌∷◌, ◌++◌, drop, Some, Ok, Err, vec_items, is_ok, MatchResult, Option, Result, sym, refl, ap, ◌∙◌, subst, ⊎_elim, append_assoc, arith}
+use Rattle.std.proofs.lemmas.Bool.{cases_Bool, both_ways}
 use Rattle.kinds.specs.Alphabet.{Alphabet, Lawful, alphanumeric}
 use Rattle.kinds.specs.Grammar.{Placed, behind}
-use Rattle.kinds.specs.Reader.{State, between, asked, half, alternatives, bracket, low, high, digits, endless, leads, with_code, next, finished, in_front, follow, items_of}
+use Rattle.kinds.specs.Reader.{State, between, asked, half, alternatives, bracket, low, high, digits, endless, leads, with_code, next, in_front, follow, items_of}
 use Rattle.kinds.proofs.Texts.{leads_alphanumeric}
-use Rattle.engine.specs.Contexts.{nameless, expects_in, ends_in, context_behind, state_of, state_in, step_of, ContextWithin, StepsTo, PartPushed}
+use Rattle.engine.specs.Contexts.{nameless, expects_in, context_behind, state_of, state_in, step_of, ContextWithin, StepsTo, PartPushed}
 use Rattle.engine.specs.Reading.{held}
 use Rattle.engine.specs.Stored.{item_of}
-use Rattle.engine.specs.Tokens.{expected, character, with_token, continued, StopsExpecting, ReadsToken, Lexed}
+use Rattle.engine.specs.Tokens.{expected, character, with_token, continued, ReadsToken, Lexed}
 use Rattle.engine.specs.declared.context.Context.{Context}
 use Rattle.engine.specs.declared.context.Context.TheVariants as context
-use Rattle.engine.specs.declared.lexer.Stop.{Stop}
 use Rattle.engine.specs.declared.part.Part.{Part}
 use Rattle.engine.specs.declared.part.Part.TheVariants as part
 use Rattle.engine.specs.declared.pattern.Pattern.{Pattern}
@@ -30,11 +28,6 @@ use Rattle.engine.proofs.Steps.{unled}
 abbrev pub prepended : List Placed → Result (List Placed) ℕ → Result (List Placed) ℕ
 prepended qs (Ok rs) = Ok (qs ++ rs)
 prepended qs (Err n) = Err n
-
--- where no item was read, the rest gives all
-prepended_none : (r : Result (List Placed) ℕ) → prepended [] r ≡ r
-prepended_none (Ok rs) = refl
-prepended_none (Err n) = refl
 
 -- a punctuation is no letter or digit
 no_letter : (m : Punctuation) → alphanumeric (character m) ≡ false
@@ -66,16 +59,6 @@ behind_in codes runs (part.Other run) = refl
 behind_in codes runs (part.Gap g) = refl
 
 module _ {E : Type 0} (a : Alphabet E) where
-  -- whether a text may end is said by the context alone
-  finished_in : (codes : List ℕ) (runs : List Run) (c : Context) → finished a (state_of codes runs c) ≡ ends_in c
-  finished_in codes runs context.Start = refl
-  finished_in codes runs context.AfterThing = refl
-  finished_in codes runs context.AfterGap = refl
-  finished_in codes runs (context.Group first from) = refl
-  finished_in codes runs context.Bracket = refl
-  finished_in codes runs (context.Low inside from) = refl
-  finished_in codes runs (context.High inside first from) = refl
-
   -- one item more before the rest
   prepended_push : (qs : List Placed) (q : Placed) (r : Result (List Placed) ℕ) → prepended qs (in_front a q r) ≡ prepended (qs ++ q ∷ []) r
   prepended_push qs q (Ok rs) = ap Ok (sym (append_assoc qs (q ∷ []) rs))
@@ -126,30 +109,7 @@ module _ {E : Type 0} (a : Alphabet E) where
     same_token s e (token.Gap g) h = refl
 
   module _ (t : List ℕ) where
-    -- before the first token
-    pub so_far_start : (p : Pattern) → held p ≡ [] → SoFar t p context.Start 0 0
-    so_far_start p none = sym (ap (λ qs. prepended qs (items_of a t)) none ∙ prepended_none (items_of a t))
-
     module _ (p : Pattern) (c : Context) (from place : ℕ) (so_far : SoFar t p c from place) where
-      -- at the end of the text
-      ended : place ≡ length t → items_of a t ≡ prepended (held p) (follow a (state_in p c) from place [])
-      ended h = so_far ∙ ap (λ rest. prepended (held p) (follow a (state_in p c) from place rest)) (drop_all place t (omega arith))
-
-      -- a text that may end there is read
-      pub whole : place ≡ length t → ends_in c ≡ true → items_of a t ≡ Ok (held p)
-      whole h e =
-          ended h
-          ∙ ap (prepended (held p)) (cond-true _ _ _ (finished_in (vec_items p.codes) (vec_items p.runs) c ∙ e))
-          ∙ ap Ok (append-nil (held p))
-
-      -- a text that may not end there is refused at its end
-      pub broken_off : place ≡ length t → ends_in c ≡ false → items_of a t ≡ Err place
-      broken_off h e = ended h ∙ ap (prepended (held p)) (cond-false _ _ _ (finished_in (vec_items p.codes) (vec_items p.runs) c ∙ e))
-
-      -- where the lexer cannot read on
-      pub stopped : (at : ℕ) → StopsExpecting a t (expects_in c) place at → items_of a t ≡ Err at
-      stopped at h = so_far ∙ ap (prepended (held p)) (h (state_in p c) (expected_in (vec_items p.codes) (vec_items p.runs) c) from)
-
       -- behind a token, by what it did
       module _ (law : Lawful a) (tok : Token) (later : ℕ) (read : ReadsToken a t (expects_in c) place tok later) (after : Pattern) (s : Step) (to : StepsTo p after (with_token nameless (state_in p c) tok) s) where
         -- the rest goes on from what the token did
@@ -190,14 +150,6 @@ module _ {E : Type 0} (a : Alphabet E) where
     -- a token
     pub lexed_token : {n : Option Token} {tok : Token} → n ≡ Some tok → Lexed a t' e' place (Ok n) later → ReadsToken a t e place tok later
     lexed_token {n} {tok} some h = subst (λ x. ReadsToken a t x place tok later) is (subst (λ x. ReadsToken a x e' place tok later) same (subst (λ o. Lexed a t' e' place (Ok o) later) some h).0)
-
-    -- the end of the text
-    pub lexed_end : {n : Option Token} → n ≡ None → Lexed a t' e' place (Ok n) later → place ≡ length t
-    lexed_end none h = (subst (λ o. Lexed a t' e' place (Ok o) later) none h).0 ∙ ap length same
-
-    -- a place where the text cannot be read on
-    pub lexed_stop : (stop : Stop) → Lexed a t' e' place (Err stop) later → StopsExpecting a t e place stop.place
-    lexed_stop stop h = subst (λ x. StopsExpecting a t x place stop.place) is (subst (λ x. StopsExpecting a x e' place stop.place) same h.0)
 
 -- an Ok behind a changed error was an Ok
 pub ok_before : {A E F : Type 0} (r : Result A E) (m : Result A F) (n : A) (P : E → Type 0) → MatchResult r (λ x. m ≡ Ok x) P → is_ok m ≡ is_ok r → m ≡ Ok n → r ≡ Ok n

@@ -1,4 +1,4 @@
--- What one turn of the lexer's loops keeps.
+-- What the lexer's iterators give: whether some second character names an element with a first, and the digits of a number.
 use Rattle.std.proofs.Common.{◌≡◌, ℕ, zero, suc, ◌+◌, ◌-◌, ◌*◌, ◌^◌, ◌<◌, ◌≤◌, Bool, true, false, cond, leb, List, [], ◌∷◌, ◌++◌, length, get_or, take, drop, Some, None, Decides, IsTrue, MatchBool, IfSome, IsSomeAnd, Option, sym, refl, ap, ◌∙◌, subst, zero-add, pow-add, arith, length-drop, length-take-le}
 use Rattle.std.proofs.lemmas.Bool.{leb-true, and_parts}
 use Rattle.std.proofs.lemmas.Bool.Decides.{same_from_decides}
@@ -41,10 +41,6 @@ module _ {S F : Type 0} {steps : S → Option ℕ → S → Type 0} (g : Mut F (
   any_below r h = same_from_decides r (some_below test n) (any_decides r h) (some_below_decides test n)
 
 -- one digit more
-pub digits_more : (ds : List ℕ) (d : ℕ) → Digits ds → within 48 57 d ≡ true → Digits (ds ++ d ∷ [])
-digits_more [] d h e = (e, tt)
-digits_more (x ∷ xs) d h e = (h.0, digits_more xs d h.1 e)
-
 pub followed_by_more : (n : ℕ) (ds : List ℕ) (d : ℕ) → followed_by n (ds ++ d ∷ []) ≡ 10 * followed_by n ds + (d - 48)
 followed_by_more n [] d = refl
 followed_by_more n (x ∷ xs) d = followed_by_more (10 * n + (x - 48)) xs d

@@ -1,6 +1,6 @@
 -- Where the items of a fragment and its anchor stand in a list, and how far they reach.
 use Rattle.std.specs.Prelude.{◌≡◌, ℕ, ◌+◌, ◌≤◌, true, false, List, [], ◌∷◌, length, Some, None, Option}
-use Rattle.std.specs.List.{AllByRecursion as All}
+use Rattle.std.specs.List.{AllByRecursion}
 use Rattle.kinds.specs.Fragments.{Anchor, endless, span}
 use Rattle.kinds.specs.Patterns.{Item, AtMost, Cut}
 use Rattle.kinds.specs.Search.{stretch, stands_at}
@@ -29,13 +29,13 @@ Bounded i = endless i ≡ false
 
 -- what a search relies on of a fragment's items: no endless gap, and a span of at most 1,024
 pub record Small (items : List Item) : Type 0 where
-  pub bounded : All Bounded items
+  pub bounded : AllByRecursion Bounded items
   pub short : sum_span items ≤ 1024
 
 -- the parts of a small fragment's anchor: no endless gap, and together a span of at most 1,024
 pub record SmallParts (a : Anchor) : Type 0 where
-  pub front_bounded : All Bounded a.front
-  pub back_bounded : All Bounded a.back
+  pub front_bounded : AllByRecursion Bounded a.front
+  pub back_bounded : AllByRecursion Bounded a.back
   pub short : sum_span a.front + length a.codes + sum_span a.back ≤ 1024
 
 -- a placement that ends at e, of which the anchor stands at p

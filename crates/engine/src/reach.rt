@@ -198,7 +198,9 @@ fn pass<R: Reading>(pattern: &Pattern, part: Part, row: &mut Row, reading: &R)
     }
 }
 
-// The offsets that the parts from `from` to before `to` reach.
+// The offsets that the parts from `from` to before `to` reach. It is not inlined: the scan for the next anchor, which calls it
+// seldom, is faster without it.
+#[inline(never)]
 pub(crate) fn reach<R: Reading>(pattern: &Pattern, from: usize, to: usize, reading: &R) -> Row
     requires ordered { from ≤ to }
     requires inside { to ≤ vec_len pattern.now.parts }

@@ -1,6 +1,6 @@
 -- The cut of items into fragments, one item at a time.
 use Rattle.std.proofs.Common.{◌≡◌, ℕ, ◌+◌, ◌-◌, ◌<◌, ◌≤◌, Bool, true, false, not, ◌||◌, List, [], ◌∷◌, ◌++◌, length, get_or, take, drop, is_some, Some, None, Option, sym, refl, ap, ◌∙◌, add-zero, add_assoc, zero-add, arith, take-add}
-use Rattle.std.proofs.lemmas.List.{drop_more, drop_all}
+use Rattle.std.proofs.lemmas.List.{drop_more}
 use Rattle.std.proofs.lemmas.Bool.{both_ways}
 use Rattle.kinds.specs.Fragments.{Fragment, is_gap, endless, some, sum, least, cut_from}
 use Rattle.kinds.specs.Grammar.{Placed}
@@ -46,18 +46,7 @@ module _ (qs : List Placed) where
     pub summed : between ≡ sum least (row end i)
     pub cuts : (break : ℕ) → cut_from break [] [] qs ≡ cut_from break (take end qs) (row end i) (drop i qs)
 
-  -- before the first item
-  pub cutting_begins : Cutting 0 0 false 0
-  cutting_begins = record { ordered = omega arith; tested = refl; summed = refl; cuts = λ _. refl }
-
   module _ (end i : ℕ) (open_ended : Bool) (between : ℕ) (so_far : Cutting end i open_ended between) where
-    -- at the end of the items
-    pub cutting_ends : length qs ≡ i → Cuts qs end None
-    cutting_ends e =
-        let none : drop i qs ≡ [] = drop_all i qs (omega arith) in
-        let before = so_far.ordered in
-        (omega arith, λ break. so_far.cuts break ∙ ap (cut_from break (take end qs) (row end i)) none)
-
     module _ (q : Placed) (inside : i < length qs) (here : get_or qs i q ≡ q) where
       -- the items from here on begin with this one
       next : drop i qs ≡ q ∷ drop (i + 1) qs

@@ -4,7 +4,7 @@ use Rattle.std.proofs.lemmas.List.{get_or-map}
 use Rattle.kinds.specs.Fragments as spec
 use Rattle.engine.specs.Stored.{items, item_of, placed_of}
 use Rattle.engine.specs.declared.part.Part.TheVariants as part
-use Rattle.engine.proofs.Cutting.{Cutting, cutting_begins, cutting_ends, cutting_gap, cutting_thing, cutting_cuts, no_gap, endless_gap}
+use Rattle.engine.proofs.Cutting.{Cutting, cutting_gap, cutting_thing, cutting_cuts, no_gap, endless_gap}
 use Rattle.engine.proofs.compile.cut_first.Goals as goal
 use Rattle.engine.proofs.compile.cut_first.Goals.{in-Gap+in_ok-between-in-Gap, in_default-2}
 
@@ -12,9 +12,6 @@ use Rattle.engine.proofs.compile.cut_first.Goals.{in-Gap+in_ok-between-in-Gap, i
 not-not : (b : Bool) → not (not b) ≡ b
 not-not true = refl
 not-not false = refl
-
-pub loop-i-init : goal.loop-i-init
-loop-i-init c codes runs = cutting_begins (items codes runs c.args.parts.now)
 
 pub returns-in_default : goal.returns-in_default
 returns-in_default c codes runs =
@@ -49,10 +46,3 @@ loop-i-preserved c codes runs =
           (subst (λ b. Cutting qs (i + 1) (i + 1) b c.match-placed.between) (sym (w.endless-is ∙ w.if-endless.false))
           (subst (λ n. Cutting qs (i + 1) (i + 1) false n) (sym w.between-is) thing))
     ]
-
-pub returns : goal.returns
-returns c codes runs =
-    let ps = c.args.parts.now in
-    let long = length-map ps (placed_of codes runs) in
-    let at = c.loop-i-test.false in
-    cutting_ends (items codes runs ps) c.loop-i.end c.loop-i.i c.loop-i.endless c.loop-i.between (c.loop-i.invariant codes runs) (omega arith)

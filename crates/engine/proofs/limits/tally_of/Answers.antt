@@ -1,18 +1,13 @@
 use Rattle.std.proofs.Common.{◌≡◌, ◌+◌, true, List, get_or, drop, vec_items, sym, ap, ◌∙◌, subst, arith}
-use Rattle.std.proofs.lemmas.List.{at_drop_more, at_drop_all}
+use Rattle.std.proofs.lemmas.List.{at_drop_more}
 use Rattle.engine.specs.Stored.{items, placed_of, all_parts_within}
-use Rattle.engine.specs.Tallies.{initial, closed, tallied}
+use Rattle.engine.specs.Tallies.{tallied}
 use Rattle.engine.specs.declared.limits.Tally.{Tally}
 use Rattle.engine.specs.declared.part.PlacedPart.{PlacedPart}
 use Rattle.engine.specs.declared.part.Part.TheVariants.{Literal}
 use Rattle.engine.proofs.Lengths.{part_at_within}
 use Rattle.engine.proofs.Tallies.{with_item_ended}
 use Rattle.engine.proofs.limits.tally_of.Goals as goal
-
-pub loop-part-init : goal.loop-part-init
-loop-part-init c =
-    let p = c.args.pattern.now in
-    (ap (λ ps. tallied initial (items (vec_items p.codes) (vec_items p.runs) ps)) c.as_slice-part-items.ensures.value, omega arith)
 
 pub with_item-tally-requires : goal.with_item-tally-requires
 with_item-tally-requires c =
@@ -37,15 +32,3 @@ loop-part-preserved c =
           ∙ c.loop-part.invariant.0,
       omega (arith, with_item_ended c.loop-part.tally q, ap (λ t. t.ended) c.with_item-tally.ensures, c.loop-part.invariant.1),
     )
-
-pub close-requires : goal.close-requires
-close-requires c =
-    let p = c.args.pattern.now in
-    omega (arith, c.loop-part.invariant.1, c.loop-part.auto.part-index-end, c.as_slice-part-items.ensures.len, p.parts.ok.1, p.parts.small)
-
-pub returns : goal.returns
-returns c =
-    let p = c.args.pattern.now in
-    let parts = c.as_slice-part-items.result.now in
-    let on : List PlacedPart → Tally = λ ps. tallied c.loop-part.tally (items (vec_items p.codes) (vec_items p.runs) ps) in
-    c.close.ensures ∙ ap closed (sym (at_drop_all on parts c.loop-part.part-index c.loop-part-test.false) ∙ c.loop-part.invariant.0)

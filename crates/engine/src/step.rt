@@ -1,4 +1,6 @@
 // What one token does to the item that is being read.
+#![tactic(auto, using(crate::proofs::Steps::unled))]
+
 ghost use Rattle.std.specs.Prelude.{◌≡◌, IfOk};
 ghost use Rattle.engine.specs.Contexts.{ContextWithin, StepsTo, nameless, state_in};
 ghost use Rattle.engine.specs.Tokens.{character, with_token};
@@ -143,18 +145,23 @@ fn literal(pattern: &mut Pattern, context: Context, code: u16) -> Result<Step, A
     requires { ContextWithin pattern.old context }
     ensures { IfOk result (StepsTo pattern.old pattern.new (with_code nameless (state_in pattern.old context) code)) }
 {
-    let later = match context {
+    match context {
         Context::Start | Context::AfterThing | Context::AfterGap => {
-            return Ok(Step::Complete(Part::Literal(code)));
+            Ok(Step::Complete(Part::Literal(code)))
         }
-        Context::Bracket => Context::Low {
-            inside: true,
-            start: pattern.codes.len(),
-        },
-        Context::Group { .. } | Context::Low { .. } | Context::High { .. } => context,
-    };
-    pattern.push_code(code)?;
-    Ok(Step::Within(later))
+        Context::Bracket => {
+            let start = pattern.codes.len();
+            pattern.push_code(code)?;
+            Ok(Step::Within(Context::Low {
+                inside: true,
+                start,
+            }))
+        }
+        Context::Group { .. } | Context::Low { .. } | Context::High { .. } => {
+            pattern.push_code(code)?;
+            Ok(Step::Within(context))
+        }
+    }
 }
 
 // One token.

@@ -1,5 +1,5 @@
 -- The least end through one place of an anchor, from the rows of what is reached on both sides of it.
-use Rattle.std.proofs.Common.{◌≡◌, ℕ, ◌+◌, ◌-◌, ◌<◌, ◌≤◌, true, ◌&&◌, ltb, leb, List, reverse, length, take, drop, Some, None, vec_len, Decides, Option, sym, ap, ◌∙◌, subst, ap₂, ⊎_elim, arith}
+use Rattle.std.proofs.Common.{◌≡◌, ℕ, ◌+◌, ◌-◌, ◌<◌, ◌≤◌, Bool, true, false, MatchOption, ◌&&◌, ltb, leb, List, reverse, length, take, drop, Some, None, vec_len, Decides, Option, sym, ap, ◌∙◌, subst, ap₂, ⊎_elim, arith}
 use Rattle.std.specs.List.{AllByRecursion as All}
 use Rattle.std.proofs.lemmas.Bool.{both_ways, leb-true, le-leb, lt-ltb, and_parts, cases_lt}
 use Rattle.kinds.specs.Fragments.{Anchor}
@@ -13,6 +13,12 @@ use Rattle.rows.specs.declared.Row.{Row}
 use Rattle.engine.specs.Finding.{Reached, part_of, Start, Sides, LeastThrough}
 use Rattle.engine.specs.Reading.{held}
 use Rattle.engine.specs.declared.fragment.Fragment.{Fragment}
+use Rattle.engine.specs.declared.starts.Starts.{Starts}
+
+-- what is said of a value, weaker
+pub on_some : {X : Type 0} (A : Type 0) (Q R : X → Type 0) (o : Option X) → ((x : X) → Q x → R x) → MatchOption o A Q → MatchOption o A R
+on_some A Q R None f h = h
+on_some A Q R (Some x) f h = f x h
 
 -- Starts.
 
@@ -21,6 +27,11 @@ abbrev pub least_distance : ℕ → Option ℕ → ℕ
 least_distance place (Some until) = place - until
 least_distance place None = 0
 
+-- so is what a bound gives it
+pub least_is : (place n : ℕ) (until : Option ℕ) → MatchOption until (n ≡ 0) (λ u. n ≡ place - u) → n ≡ least_distance place until
+least_is place n None h = h
+least_is place n (Some u) h = h
+
 -- a start is not past the bound exactly from the least distance on
 not_past_bound : (place d : ℕ) (until : Option ℕ) → d ≤ place
     → (AtMost until (place - d) → least_distance place until ≤ d) × (least_distance place until ≤ d → AtMost until (place - d))
@@ -28,43 +39,51 @@ not_past_bound place d (Some until) inside = (λ h. omega arith, λ h. omega ari
 not_past_bound place d None inside = (λ h. omega arith, λ h. tt)
 
 -- a row without a member from the least distance on has no start
-pub no_start : (row : Row) (place from : ℕ) (until : Option ℕ) → NoneFrom row (least_distance place until) → Start row place from until → ⊥
+no_start : (row : Row) (place : ℕ) (s : Starts) → NoneFrom row (least_distance place s.until) → Start row place s → ⊥
 unfolding NoneFrom
-no_start row place from until none s =
-    both_ways _ (none s.distance ((not_past_bound place s.distance until s.inside).0 s.early)) s.held
+no_start row place s none h =
+    both_ways _ (none h.distance ((not_past_bound place h.distance s.until h.inside).0 h.early)) h.held
 
 -- a row with a first member from the least distance on has a start exactly when that one is near enough
-pub first_start : (row : Row) (place from : ℕ) (until : Option ℕ) (d : ℕ) → from ≤ place → FirstFrom row (least_distance place until) d
-    → Decides (leb d (place - from)) (Start row place from until)
-first_start row place from until d ordered first = (
+first_start : (row : Row) (place : ℕ) (s : Starts) (d : ℕ) → s.from ≤ place → FirstFrom row (least_distance place s.until) d
+    → Decides (leb d (place - s.from)) (Start row place s)
+first_start row place s d ordered first = (
   λ y.
-      let near = leb-true d (place - from) y in
+      let near = leb-true d (place - s.from) y in
       let inside : d ≤ place = omega arith in
       record {
         distance = d;
         held = first.held;
         inside = inside;
         late = omega arith;
-        early = (not_past_bound place d until inside).1 first.reached;
+        early = (not_past_bound place d s.until inside).1 first.reached;
       },
-  λ s.
-      let later = (not_past_bound place s.distance until s.inside).0 s.early in
-      let fits : d ≤ s.distance =
-      ⊎_elim (λ less. absurd (both_ways _ (first.before s.distance later less) s.held)) (λ more. more) (cases_lt s.distance d) in
-      le-leb d (place - from) (omega (arith, s.late, s.inside)),
+  λ h.
+      let later = (not_past_bound place h.distance s.until h.inside).0 h.early in
+      let fits : d ≤ h.distance =
+      ⊎_elim (λ less. absurd (both_ways _ (first.before h.distance later less) h.held)) (λ more. more) (cases_lt h.distance d) in
+      le-leb d (place - s.from) (omega (arith, h.late, h.inside)),
 )
+
+-- whether it is near enough tells whether the row has a start
+pub start_decides : (row : Row) (place least : ℕ) (s : Starts) (first : Option ℕ) (near : Bool) → s.from ≤ place → least ≡ least_distance place s.until
+    → MatchOption first (NoneFrom row least) (FirstFrom row least) → MatchOption first (near ≡ false) (λ d. near ≡ leb d (place - s.from)) → Decides near (Start row place s)
+start_decides row place least s None near ordered is none answer =
+    (λ y. absurd (both_ways _ answer y), λ h. absurd (no_start row place s (subst (NoneFrom row) is none) h))
+start_decides row place least s (Some d) near ordered is first answer =
+    subst (λ b. Decides b (Start row place s)) (sym answer) (first_start row place s d ordered (subst (λ n. FirstFrom row n d) is first))
 
 -- What is reached before the anchor.
 
-module _ (front : List Item) (xs : List ℕ) (p from : ℕ) (until : Option ℕ) (row : Row) (within : p ≤ length xs) (reached : Reached (mirrored front) (reverse (take p xs)) row) where
+module _ (front : List Item) (xs : List ℕ) (p : ℕ) (starts : Starts) (row : Row) (within : p ≤ length xs) (reached : Reached (mirrored front) (reverse (take p xs)) row) where
   -- a start is one of what stands before the anchor
-  start_ends : Start row p from until → Ends front from until xs p
+  start_ends : Start row p starts → Ends front starts.from starts.until xs p
   start_ends s =
       let (small, y) = and_parts (ltb s.distance 1024) _ (sym (reached s.distance) ∙ s.held) in
-      (ends_left front from until xs p within).1 (s.distance, s.inside, s.late, s.early, y)
+      (ends_left front starts.from starts.until xs p within).1 (s.distance, s.inside, s.late, s.early, y)
 
   -- and what stands there has a start, where the items are short
-  ends_start : All Bounded front → sum_span front < 1024 → Ends front from until xs p → Start row p from until
+  ends_start : All Bounded front → sum_span front < 1024 → Ends front starts.from starts.until xs p → Start row p starts
   ends_start bounded short h =
       let ordered = h.spans.ordered in
       let same : h.begins ≡ p - (p - h.begins) = omega arith in
@@ -76,7 +95,7 @@ module _ (front : List Item) (xs : List ℕ) (p from : ℕ) (until : Option ℕ)
         held = reached (p - h.begins) ∙ ap₂ ◌&&◌ below y;
         inside = omega arith;
         late = omega (arith, h.late);
-        early = subst (AtMost until) same h.early;
+        early = subst (AtMost starts.until) same h.early;
       }
 
 -- What is reached behind the anchor.
@@ -112,7 +131,7 @@ module _ (back : List Item) (xs : List ℕ) (b : ℕ) (row : Row) (within : b �
 -- Both.
 
 module _ (qs mirror : List Placed) (f : Fragment) (a : Anchor) (sides : Sides qs mirror f a) (xs : List ℕ) (p : ℕ)
-    (stands : stands_at a.codes xs p ≡ true) (from : ℕ) (until : Option ℕ) where
+    (stands : stands_at a.codes xs p ≡ true) (starts : Starts) where
   -- the anchor lies in the list
   pub anchor_inside : p + vec_len f.codes ≤ length xs
   anchor_inside = omega (arith, ((stands_decides a.codes xs p).0 stands).0, sides.len)
@@ -148,25 +167,22 @@ module _ (qs mirror : List Placed) (f : Fragment) (a : Anchor) (sides : Sides qs
 
   -- where there is no start, nothing ends through the anchor
   pub through_no_start : (row : Row) (m n : ℕ) → m ≡ length mirror - f.anchor → n ≡ length mirror - f.first
-      → Reached (part_of mirror m n) (reverse (take p xs)) row → (Start row p from until → ⊥) → LeastThrough a from until xs p None
+      → Reached (part_of mirror m n) (reverse (take p xs)) row → (Start row p starts → ⊥) → LeastThrough a starts xs p None
   through_no_start row m n d e reached none =
-      λ end h. none (ends_start a.front xs p from until row place_inside (before row m n d e reached) sides.small.front_bounded front_short h.before)
+      λ end h. none (ends_start a.front xs p starts row place_inside (before row m n d e reached) sides.small.front_bounded front_short h.before)
 
-  -- where nothing is reached behind it, neither
-  pub through_no_end : (row : Row) (b : ℕ) → b ≡ p + vec_len f.codes
-      → Reached (part_of qs (f.anchor + vec_len f.codes) f.end) (drop b xs) row → NoneFrom row 0 → LeastThrough a from until xs p None
-  through_no_end row b d reached none =
-      λ end h. none_spans a.back xs (p + length a.codes) row end_inside (behind row b d reached) sides.small.back_bounded back_short none end h.behind
-
-  -- else the first member of the row behind it gives the least end
-  pub through_first : (left right : Row) (m n b k : ℕ) → m ≡ length mirror - f.anchor → n ≡ length mirror - f.first → b ≡ p + vec_len f.codes
-      → Reached (part_of mirror m n) (reverse (take p xs)) left → Start left p from until
-      → Reached (part_of qs (f.anchor + vec_len f.codes) f.end) (drop b xs) right → FirstFrom right 0 k
-      → (end : ℕ) → end ≡ b + k → LeastThrough a from until xs p (Some end)
-  through_first left right m n b k d e d' reached start reached' first end is =
+  -- where there is one, the first member of the row behind the anchor gives the least end
+  pub through_first : (left right : Row) (m n b : ℕ) → m ≡ length mirror - f.anchor → n ≡ length mirror - f.first → b ≡ p + vec_len f.codes
+      → Reached (part_of mirror m n) (reverse (take p xs)) left → Start left p starts
+      → Reached (part_of qs (f.anchor + vec_len f.codes) f.end) (drop b xs) right
+      → (first end : Option ℕ) → MatchOption first (NoneFrom right 0) (FirstFrom right 0) → MatchOption first (end ≡ None) (λ k. end ≡ Some (b + k)) → LeastThrough a starts xs p end
+  through_first left right m n b d e d' reached start reached' None end none is =
+      subst (LeastThrough a starts xs p) (sym is)
+      (λ end h. none_spans a.back xs (p + length a.codes) right end_inside (behind right b d' reached') sides.small.back_bounded back_short none end h.behind)
+  through_first left right m n b d e d' reached start reached' (Some k) end first is =
       let right_of = behind right b d' reached' in
-      let ends = start_ends a.front xs p from until left place_inside (before left m n d e reached) start in
+      let ends = start_ends a.front xs p starts left place_inside (before left m n d e reached) start in
       let spans = member_spans a.back xs (p + length a.codes) right end_inside right_of k first.held in
       let least = first_least a.back xs (p + length a.codes) right end_inside right_of sides.small.back_bounded back_short k first in
-      let same : p + length a.codes + k ≡ end = omega (arith, sides.len) in
-      subst (λ z. LeastThrough a from until xs p (Some z)) same (record { before = ends; stands = stands; behind = spans }, least)
+      let same : p + length a.codes + k ≡ b + k = omega (arith, sides.len) in
+      subst (LeastThrough a starts xs p) (ap Some same ∙ sym is) (record { before = ends; stands = stands; behind = spans }, least)

@@ -14,29 +14,30 @@ use Rattle.engine.specs.Codes.{not_past, ShiftsOf}
 use Rattle.engine.specs.Finding.{smaller_of, Bounds, LeastThrough}
 use Rattle.engine.specs.Searched.{Searched}
 use Rattle.engine.specs.declared.fragment.Fragment.{Fragment}
+use Rattle.engine.specs.declared.starts.Starts.{Starts}
 use Rattle.engine.proofs.Anchored.{codes_long, sides_of}
 
 -- the least end through the places of an anchor before one, or none, where no place past the last one gives a smaller end
-pub record Best (a : Anchor) (from : ℕ) (until : Option ℕ) (xs : List ℕ) (place last : ℕ) (best : Option ℕ) : Type 0 where
-  pub before : BestBefore a.front a.codes a.back from until xs place best
-  pub beyond : (q e : ℕ) → last < q → Anchored a.front a.codes a.back from until xs q e → NoLess best e
+pub record Best (a : Anchor) (starts : Starts) (xs : List ℕ) (place last : ℕ) (best : Option ℕ) : Type 0 where
+  pub before : BestBefore a.front a.codes a.back starts.from starts.until xs place best
+  pub beyond : (q e : ℕ) → last < q → Anchored a.front a.codes a.back starts.from starts.until xs q e → NoLess best e
 
 -- a place more
-best_past : (a : Anchor) (from : ℕ) (until : Option ℕ) (xs : List ℕ) (p : ℕ) (best end : Option ℕ) → LeastThrough a from until xs p end
-    → BestBefore a.front a.codes a.back from until xs p best → BestBefore a.front a.codes a.back from until xs (p + 1) (smaller_of best end)
-best_past a from until xs p None None none h = best_kept a.front a.codes a.back from until xs p None (λ e x. absurd (none e x)) h
-best_past a from until xs p (Some b) None none h = best_kept a.front a.codes a.back from until xs p (Some b) (λ e x. absurd (none e x)) h
-best_past a from until xs p None (Some e) (x, least) h = best_more a.front a.codes a.back from until xs p None e x least tt h
-best_past a from until xs p (Some b) (Some e) (x, least) h =
+best_past : (a : Anchor) (starts : Starts) (xs : List ℕ) (p : ℕ) (best end : Option ℕ) → LeastThrough a starts xs p end
+    → BestBefore a.front a.codes a.back starts.from starts.until xs p best → BestBefore a.front a.codes a.back starts.from starts.until xs (p + 1) (smaller_of best end)
+best_past a starts xs p None None none h = best_kept a.front a.codes a.back starts.from starts.until xs p None (λ e x. absurd (none e x)) h
+best_past a starts xs p (Some b) None none h = best_kept a.front a.codes a.back starts.from starts.until xs p (Some b) (λ e x. absurd (none e x)) h
+best_past a starts xs p None (Some e) (x, least) h = best_more a.front a.codes a.back starts.from starts.until xs p None e x least tt h
+best_past a starts xs p (Some b) (Some e) (x, least) h =
     ⊎_elim
     (λ less.
     let same : b ≡ min b e = omega arith in
-    subst (λ n. BestBefore a.front a.codes a.back from until xs (p + 1) (Some n)) same
-    (best_kept a.front a.codes a.back from until xs p (Some b) (λ e' y. omega (arith, least e' y.behind)) h))
+    subst (λ n. BestBefore a.front a.codes a.back starts.from starts.until xs (p + 1) (Some n)) same
+    (best_kept a.front a.codes a.back starts.from starts.until xs p (Some b) (λ e' y. omega (arith, least e' y.behind)) h))
     (λ more.
     let same : e ≡ min b e = omega arith in
-    subst (λ n. BestBefore a.front a.codes a.back from until xs (p + 1) (Some n)) same
-    (best_more a.front a.codes a.back from until xs p (Some b) e x least more h))
+    subst (λ n. BestBefore a.front a.codes a.back starts.from starts.until xs (p + 1) (Some n)) same
+    (best_more a.front a.codes a.back starts.from starts.until xs p (Some b) e x least more h))
     (cases_lt b e)
 
 -- what is no less than the best is no less than a smaller one
@@ -62,7 +63,7 @@ next_within codes xs place last (Some p) first =
     cond_both (leb p last) (Some p) None (NextFit codes xs place last) (λ _. first)
     (λ past q l k y. omega (arith, leb-false p last past, first.2 q l y))
 
-module _ (r : Reference) (qs mirror : List Placed) (f : Fragment) (g : spec.Fragment) (s : Searched r qs mirror f g) (from : ℕ) (until : Option ℕ) (xs : List ℕ) where
+module _ (r : Reference) (qs mirror : List Placed) (f : Fragment) (g : spec.Fragment) (s : Searched r qs mirror f g) (starts : Starts) (xs : List ℕ) where
   -- the anchor of the fragment's items
   abbrev a : Anchor
   a = anchor r (bodies g.body)
@@ -72,7 +73,7 @@ module _ (r : Reference) (qs mirror : List Placed) (f : Fragment) (g : spec.Frag
   bounds_of count e = record { before = s.holds.ordered.0; behind = s.holds.ordered.1; inside = omega (arith, s.holds.ordered.2) }
 
   -- what stands before the anchor spans less than a row
-  before_near : (q e : ℕ) → Anchored a.front a.codes a.back from until xs q e → (start : ℕ) × AtMost until start × (q < start + 1024) × (q ≤ length xs)
+  before_near : (q e : ℕ) → Anchored a.front a.codes a.back starts.from starts.until xs q e → (start : ℕ) × AtMost starts.until start × (q < start + 1024) × (q ≤ length xs)
   before_near q e x =
       let sides = sides_of r qs mirror f g s in
       let start = x.before in
@@ -81,21 +82,21 @@ module _ (r : Reference) (qs mirror : List Placed) (f : Fragment) (g : spec.Frag
       (start.begins, start.early, omega (arith, sides.small.short, s.coded, start.spans.ordered), omega arith)
 
   -- no place before the first one, and none past the last
-  pub best_begins : (place last : ℕ) → place ≡ from + f.lead → length xs ≤ 4294967295
-      → ((start p : ℕ) → AtMost until start → p < start + 1024 → p ≤ 4294967295 → p ≤ last) → Best a from until xs place last None
+  pub best_begins : (place last : ℕ) → place ≡ starts.from + f.lead → length xs ≤ 4294967295
+      → ((start p : ℕ) → AtMost starts.until start → p < start + 1024 → p ≤ 4294967295 → p ≤ last) → Best a starts xs place last None
   best_begins place last e few far =
       record {
-        before = best_none a.front a.codes a.back from until xs place (omega (arith, s.holds.leads));
+        before = best_none a.front a.codes a.back starts.from starts.until xs place (omega (arith, s.holds.leads));
         beyond = λ q end past x.
             let (start, early, near, inside) = before_near q end x in
             omega (arith, far start q early near (omega arith));
       }
 
   -- where there is no first place, there is no placement
-  pub none_begins : length xs ≤ 4294967295 → 4294967295 < from + f.lead → None ≡ least_end (bodies g.body) from until xs
+  pub none_begins : length xs ≤ 4294967295 → 4294967295 < starts.from + f.lead → None ≡ least_end (bodies g.body) starts.from starts.until xs
   none_begins few far =
-      best_all a.front a.codes a.back from until xs (bodies g.body) (anchor_splits r (bodies g.body)) (from + f.lead) None
-      (λ q l y. omega (arith, ((stands_decides a.codes xs q).0 y).0)) (best_none a.front a.codes a.back from until xs (from + f.lead) (omega (arith, s.holds.leads)))
+      best_all a.front a.codes a.back starts.from starts.until xs (bodies g.body) (anchor_splits r (bodies g.body)) (starts.from + f.lead) None
+      (λ q l y. omega (arith, ((stands_decides a.codes xs q).0 y).0)) (best_none a.front a.codes a.back starts.from starts.until xs (starts.from + f.lead) (omega (arith, s.holds.leads)))
 
   module _ (codes : List ℕ) (stored : codes ≡ vec_items f.codes) (place last : ℕ) (fit : Option ℕ) (found : ShiftsOf f.shifts codes → fit ≡ not_past last (first_fit codes xs place)) where
     -- the next place of the anchor
@@ -107,12 +108,12 @@ module _ (r : Reference) (qs mirror : List Placed) (f : Fragment) (g : spec.Frag
         (next_within a.codes xs place last (first_fit a.codes xs place) (first_fit_exactly a.codes xs place))
 
     -- where there is none, the best so far is the least end
-    pub best_ends : (best : Option ℕ) → fit ≡ None → Best a from until xs place last best → best ≡ least_end (bodies g.body) from until xs
+    pub best_ends : (best : Option ℕ) → fit ≡ None → Best a starts xs place last best → best ≡ least_end (bodies g.body) starts.from starts.until xs
     best_ends best e h =
         let none : NextFit a.codes xs place last None = subst (NextFit a.codes xs place last) e next_place in
         rw (anchor_splits r (bodies g.body))
-        (least_end_is _ from until xs best
-        (best_least a.front a.codes a.back from until xs place best h.before
+        (least_end_is _ starts.from starts.until xs best
+        (best_least a.front a.codes a.back starts.from starts.until xs place best h.before
         (λ q end l x. ⊎_elim (λ past. h.beyond q end past x) (λ within. absurd (none q l within x.stands)) (cases_lt last q))))
 
     module _ (p : ℕ) (is : fit ≡ Some p) where
@@ -129,13 +130,13 @@ module _ (r : Reference) (qs mirror : List Placed) (f : Fragment) (g : spec.Frag
       next_before few = omega (arith, ((stands_decides a.codes xs p).0 first.1).0, s.coded)
 
       -- with the least end through it, the best so far is that before the place behind it
-      pub best_next : (best end new : Option ℕ) (next last' : ℕ) → (stands_at a.codes xs p ≡ true → LeastThrough a from until xs p end)
+      pub best_next : (best end new : Option ℕ) (next last' : ℕ) → (stands_at a.codes xs p ≡ true → LeastThrough a starts xs p end)
           → new ≡ smaller_of best end → next ≡ p + 1 → ((q : ℕ) → last' < q → (last < q) ⊎ NoLess new (q + vec_len f.codes))
-          → Best a from until xs place last best → Best a from until xs next last' new
+          → Best a starts xs place last best → Best a starts xs next last' new
       best_next best end new next last' least is_new is_next narrow h =
-          let on = best_on a.front a.codes a.back from until xs place p best first.0 first.2 h.before in
+          let on = best_on a.front a.codes a.back starts.from starts.until xs place p best first.0 first.2 h.before in
           record {
-            before = rw (is_new, is_next) (best_past a from until xs p best end (least first.1) on);
+            before = rw (is_new, is_next) (best_past a starts xs p best end (least first.1) on);
             beyond = λ q e past x.
                 ⊎_elim
                 (λ far. rw is_new (no_less_smaller best end e (h.beyond q e far x)))

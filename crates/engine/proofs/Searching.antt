@@ -1,16 +1,23 @@
 -- The search for fragments, one behind the other.
-use Rattle.std.proofs.Common.{◌≡◌, ℕ, zero, suc, ◌+◌, ◌^◌, ◌<◌, ◌≤◌, true, false, List, [], ◌∷◌, ◌++◌, map, reverse, length, get_or, drop, Some, None, Option, sym, refl, ap, ◌∙◌, subst, ⊎_elim, arith}
+use Rattle.std.proofs.Common.{◌≡◌, ℕ, zero, suc, ◌+◌, ◌^◌, ◌<◌, ◌≤◌, true, false, List, [], ◌∷◌, ◌++◌, map, reverse, length, get_or, drop, Some, None, vec_items, Bool, Option, zero-add, sym, refl, ap, ◌∙◌, subst, ⊎_elim, arith}
+use mathlib.Core.Bool.{Bool-set}
 use mathlib.Core.List.{map-append, reverse-cons}
+use mathlib.Core.Logic.{∥∥₁_elim}
 use Rattle.std.proofs.lemmas.Bool.{cases_lt}
 use Rattle.kinds.specs.Fragments as spec
-use Rattle.kinds.specs.Fragments.{bodies}
+use Rattle.kinds.specs.Fragments.{bodies, fragments}
 use Rattle.kinds.specs.Grammar.{Placed}
 use Rattle.kinds.specs.Patterns.{Item}
 use Rattle.kinds.specs.Search.{least_end, found}
 use Rattle.kinds.specs.declared.pattern.Reference.{Reference}
 use Rattle.kinds.proofs.Searches.{least_end_is}
-use Rattle.engine.specs.Searched.{Searched, AllSearched}
+use Rattle.engine.specs.Reading.{held}
+use Rattle.engine.specs.Searched.{Searched}
+use Rattle.engine.specs.Sequences.{Searches}
 use Rattle.engine.specs.declared.fragment.Fragment.{Fragment}
+use Rattle.engine.specs.declared.sequence.Sequence.{Sequence}
+use Rattle.engine.specs.declared.starts.Starts.{Starts}
+use Rattle.engine.proofs.Sounds.{AllSearched, opened, all_searched, opened_cut, cut_some}
 
 -- a list reversed before each item is mapped, or after
 pub map_reverse : {X Y : Type 0} (f : X → Y) (xs : List X) → map f (reverse xs) ≡ reverse (map f xs)
@@ -50,44 +57,95 @@ module _ (r : Reference) (items mirror : List Placed) where
   searched_at (x ∷ fs) (g ∷ gs) zero f is h n = (g, refl, subst (λ y. Searched r items mirror y g) (sym is) h.0)
   searched_at (x ∷ fs) (g ∷ gs) (suc i) f is h n = searched_at fs gs i f is h.1 (omega arith)
 
--- the answer of the search for a compiled fragment
-abbrev pub Least : List Placed → List Placed → Fragment → ℕ → Option ℕ → List ℕ → Option ℕ → Type 0
-Least items mirror f from until xs o = (ref : Reference) (g : spec.Fragment) → Searched ref items mirror f g → o ≡ least_end (bodies g.body) from until xs
+-- the answer of the search for a compiled fragment of a sequence
+abbrev pub Least : Sequence → Fragment → ℕ → Option ℕ → List ℕ → Option ℕ → Type 0
+Least s f from until xs o = (g : spec.Fragment) → Searches s f g → o ≡ least_end (bodies g.body) from until xs
 
--- the search behind a place has come to the i-th fragment
-abbrev pub ComeTo : List Placed → List Placed → List Fragment → ℕ → List ℕ → ℕ → ℕ → Type 0
-ComeTo items mirror fs at xs i end =
-    (ref : Reference) (gs : List spec.Fragment) → AllSearched ref items mirror fs gs → found gs at None xs ≡ found (drop i gs) end None xs
+module _ (s : Sequence) (starts : Starts) (xs : List ℕ) where
+  -- the fragments of the sequence
+  abbrev pub gs : List spec.Fragment
+  gs = fragments s.lo (held s.pattern)
 
-module _ (items mirror : List Placed) (fs : List Fragment) (at : ℕ) (xs : List ℕ) (i end : ℕ) (so_far : ComeTo items mirror fs at xs i end) where
-  -- it ends where the fragment is not found
-  pub come_none : (f : Fragment) → f ≡ get_or fs i f → i < length fs → Least items mirror f (end + f.gap) None xs None
-      → (ref : Reference) (gs : List spec.Fragment) → AllSearched ref items mirror fs gs → false ≡ found gs at None xs
-  come_none f is inside none ref gs h =
-      let (g, there, s) = searched_at ref items mirror fs gs i f is h inside in
-      sym (
-      so_far ref gs h ∙ ap (λ l. found l end None xs) there
-      ∙ found_not g (drop (suc i) gs) end None xs (none ref g s ∙ ap (λ n. least_end (bodies g.body) (end + n) None xs) s.holds.break)
-      )
+  -- what the search for them answers, the first of them starting where it may
+  abbrev pub all_found : Bool
+  all_found = found (fragments starts.from (held s.pattern)) 0 starts.until xs
 
-  -- it ends where the fragment could only start at a place that no list has
-  pub come_past : (f : Fragment) → f ≡ get_or fs i f → i < length fs → (end + f.gap < 2 ^ 64 → ⊥) → length xs < 2 ^ 64
-      → (ref : Reference) (gs : List spec.Fragment) → AllSearched ref items mirror fs gs → false ≡ found gs at None xs
-  come_past f is inside far few =
-      let from = end + f.gap in
-      let past : length xs < from = ⊎_elim (λ l. absurd (far l)) (λ l. omega arith) (cases_lt from (2 ^ 64)) in
-      come_none f is inside (λ ref g s. least_end_past (bodies g.body) from None xs past)
+  -- what follows for a compiled fragment from its being searched for as one of them
+  at_fragment : (i : ℕ) (f : Fragment) → f ≡ get_or (vec_items s.fragments) i f → i < length (vec_items s.fragments) → (b c : Bool)
+      → ((g : spec.Fragment) → drop i gs ≡ g ∷ drop (suc i) gs → Searches s f g → b ≡ c) → b ≡ c
+  at_fragment i f is inside b c h =
+      ∥∥₁_elim s.sound (Bool-set b c) (λ sound.
+      let all = all_searched s.reference s.lo (held s.pattern) (held s.mirror) (vec_items s.fragments) sound in
+      let (g, there, k) = searched_at s.reference (held s.pattern) (held s.mirror) (vec_items s.fragments) gs i f is all inside in
+      h g there k)
 
-  -- it goes on where the fragment is found
-  pub come_next : (f : Fragment) (next : ℕ) → f ≡ get_or fs i f → i < length fs → Least items mirror f (end + f.gap) None xs (Some next)
-      → ComeTo items mirror fs at xs (i + 1) next
-  come_next f next is inside some ref gs h =
-      let (g, there, s) = searched_at ref items mirror fs gs i f is h inside in
-      let one : suc i ≡ i + 1 = omega arith in
-      so_far ref gs h ∙ ap (λ l. found l end None xs) there
-      ∙ found_next g (drop (suc i) gs) end None xs next (some ref g s ∙ ap (λ n. least_end (bodies g.body) (end + n) None xs) s.holds.break)
-      ∙ ap (λ n. found (drop n gs) next None xs) one
+  -- past the last compiled fragment there is none of them
+  past_all : (i : ℕ) → length (vec_items s.fragments) ≤ i → (b c : Bool) → (drop i gs ≡ [] → b ≡ c) → b ≡ c
+  past_all i past b c h =
+      ∥∥₁_elim s.sound (Bool-set b c) (λ sound.
+      let all = all_searched s.reference s.lo (held s.pattern) (held s.mirror) (vec_items s.fragments) sound in
+      h (searched_all s.reference (held s.pattern) (held s.mirror) (vec_items s.fragments) gs i all past))
 
-  -- behind the last all are found
-  pub come_all : length fs ≤ i → (ref : Reference) (gs : List spec.Fragment) → AllSearched ref items mirror fs gs → true ≡ found gs at None xs
-  come_all past ref gs h = sym (so_far ref gs h ∙ ap (λ l. found l end None xs) (searched_all ref items mirror fs gs i h past))
+  -- where the first may start changes nothing but its break
+  first_opened : (g : spec.Fragment) → drop 0 gs ≡ g ∷ drop 1 gs → all_found ≡ found (record { break = starts.from; body = g.body } ∷ drop 1 gs) 0 starts.until xs
+  first_opened g is = ap (λ fs. found fs 0 starts.until xs) (sym (opened_cut (held s.pattern) starts.from s.lo [] []) ∙ ap (opened starts.from) is)
+
+  -- there is a first one
+  pub first_some : length (vec_items s.fragments) ≤ 0 → false ≡ all_found
+  first_some none = past_all 0 none false all_found (λ e. absurd (cut_some (held s.pattern) s.lo [] [] e))
+
+  module _ (first : Fragment) (others : List Fragment) (whole : vec_items s.fragments ≡ first ∷ others) where
+    -- the first is searched for as the first
+    at_first : (b c : Bool) → ((g : spec.Fragment) → drop 0 gs ≡ g ∷ drop 1 gs → Searches s first g → b ≡ c) → b ≡ c
+    at_first = at_fragment 0 first (sym (ap (λ l. get_or l 0 first) whole)) (omega (arith, ap length whole))
+
+    -- and another as the one behind the first that stands at its place
+    at_other : (i : ℕ) (f : Fragment) → f ≡ get_or others i f → i < length others → (b c : Bool)
+        → ((g : spec.Fragment) → drop (suc i) gs ≡ g ∷ drop (suc (suc i)) gs → Searches s f g → b ≡ c) → b ≡ c
+    at_other i f is inside = at_fragment (suc i) f (is ∙ sym (ap (λ l. get_or l (suc i) f) whole)) (omega (arith, ap length whole))
+
+    -- the search ends where the first is not found
+    pub first_none : Least s first starts.from starts.until xs None → false ≡ all_found
+    first_none none =
+        at_first false all_found (λ g there k. sym (
+        first_opened g there
+        ∙ found_not (record { break = starts.from; body = g.body }) (drop 1 gs) 0 starts.until xs (none g k ∙ ap (λ n. least_end (bodies g.body) n starts.until xs) (sym (zero-add starts.from)))))
+
+    -- the search behind a place has come to the i-th of the others
+    abbrev pub ComeTo : ℕ → ℕ → Type 0
+    ComeTo i end = all_found ≡ found (drop (suc i) gs) end None xs
+
+    -- it comes to them where the first is found
+    pub first_next : (end : ℕ) → Least s first starts.from starts.until xs (Some end) → ComeTo 0 end
+    first_next end some =
+        at_first all_found (found (drop 1 gs) end None xs) (λ g there k.
+        first_opened g there
+        ∙ found_next (record { break = starts.from; body = g.body }) (drop 1 gs) 0 starts.until xs end (some g k ∙ ap (λ n. least_end (bodies g.body) n starts.until xs) (sym (zero-add starts.from))))
+
+    module _ (i end : ℕ) (so_far : ComeTo i end) where
+      -- behind the last all are found
+      pub come_all : length others ≤ i → true ≡ all_found
+      come_all past = past_all (suc i) (omega (arith, ap length whole)) true all_found (λ none. sym (so_far ∙ ap (λ l. found l end None xs) none))
+
+      module _ (f : Fragment) (is : f ≡ get_or others i f) (inside : i < length others) where
+        -- it ends where the fragment is not found
+        pub come_none : Least s f (end + f.gap) None xs None → false ≡ all_found
+        come_none none =
+            at_other i f is inside false all_found (λ g there k. sym (
+            so_far ∙ ap (λ l. found l end None xs) there
+            ∙ found_not g (drop (suc (suc i)) gs) end None xs (none g k ∙ ap (λ n. least_end (bodies g.body) (end + n) None xs) k.holds.break)))
+
+        -- it ends where the fragment could only start at a place that no list has
+        pub come_past : (end + f.gap < 2 ^ 64 → ⊥) → length xs < 2 ^ 64 → false ≡ all_found
+        come_past far few =
+            let past : length xs < end + f.gap = ⊎_elim (λ l. absurd (far l)) (λ l. omega arith) (cases_lt (end + f.gap) (2 ^ 64)) in
+            come_none (λ g k. least_end_past (bodies g.body) (end + f.gap) None xs past)
+
+        -- it goes on where the fragment is found
+        pub come_next : (next : ℕ) → Least s f (end + f.gap) None xs (Some next) → ComeTo (i + 1) next
+        come_next next some =
+            let one : suc (suc i) ≡ suc (i + 1) = omega arith in
+            at_other i f is inside all_found (found (drop (suc (i + 1)) gs) next None xs) (λ g there k.
+            so_far ∙ ap (λ l. found l end None xs) there
+            ∙ found_next g (drop (suc (suc i)) gs) end None xs next (some g k ∙ ap (λ n. least_end (bodies g.body) (end + n) None xs) k.holds.break)
+            ∙ ap (λ n. found (drop n gs) next None xs) one)

@@ -1,5 +1,5 @@
 -- What the compiler makes can be searched for, and its search decides as the rule does.
-use Rattle.std.proofs.Common.{◌≡◌, ℕ, Bool, true, false, cond, List, [], ◌∷◌, ◌++◌, reverse, Some, None, Ok, Err, Decides, Option, Result, sym, refl, ap, ◌∙◌, subst, inl, inr, arith}
+use Rattle.std.proofs.Common.{◌≡◌, ℕ, Bool, true, false, cond, List, [], ◌∷◌, ◌++◌, reverse, vec_items, Some, None, Ok, Err, Decides, Option, Result, sym, refl, ap, ◌∙◌, subst, inl, inr, arith}
 use mathlib.Core.Bool.{Bool-set}
 use mathlib.Core.Logic.{∥∥₁_elim}
 use Rattle.std.specs.List.{AllByRecursion as All}
@@ -8,7 +8,7 @@ use Rattle.kinds.specs.Alphabet.{Alphabet}
 use Rattle.kinds.specs.Fragments as spec
 use Rattle.kinds.specs.Fragments.{fragments, cut_from, oriented, bodies, some, endless, is_gap, is_literal, bare_place, limit_place, first_place, mirrored_placed}
 use Rattle.kinds.specs.Grammar.{Placed, Ordered, start}
-use Rattle.kinds.specs.Patterns.{Item, Placement, hits}
+use Rattle.kinds.specs.Patterns.{Placement, hits}
 use Rattle.kinds.specs.Reader.{items_of}
 use Rattle.kinds.specs.Search.{found}
 use Rattle.kinds.specs.declared.pattern.Reference.{Reference}
@@ -21,7 +21,8 @@ use Rattle.kinds.proofs.Searches.{found_exactly, cut_gap, cut_thing, cut_held}
 use Rattle.kinds.proofs.Sound as reader
 use Rattle.engine.specs.Compiled.{Hold}
 use Rattle.engine.specs.Limits.{refusal}
-use Rattle.engine.specs.Searched.{AllSearched, opened, Sound}
+use Rattle.engine.specs.Reading.{held}
+use Rattle.engine.specs.Searched.{Searched, Sound}
 use Rattle.engine.specs.Sequences.{outcome, said, CompiledFrom}
 use Rattle.engine.specs.declared.cause.Cause.{Cause}
 use Rattle.engine.specs.declared.cause.Cause.TheVariants.{Grammar, Limit, NoLiteral}
@@ -111,6 +112,13 @@ searchable Anywhere items break order accepted =
     let (within, bare) = accepted_parts items accepted in
     (within, any_break (λ b. some is_literal b ≡ true) items 0 break [] [] (none_bare (fragments 0 items) bare))
 
+-- compiled fragments that can be searched for, one for one
+abbrev pub AllSearched : Reference → List Placed → List Placed → List Fragment → List spec.Fragment → Type 0
+AllSearched r items mirror [] [] = Unit {0}
+AllSearched r items mirror [] (g ∷ gs) = ⊥
+AllSearched r items mirror (f ∷ fs) [] = ⊥
+AllSearched r items mirror (f ∷ fs) (g ∷ gs) = Searched r items mirror f g × AllSearched r items mirror fs gs
+
 -- compiled fragments of small ones with literals can be searched for
 each_searched : (r : Reference) (items mirror : List Placed) → mirror ≡ mirrored_placed items → (fs : List Fragment) (gs : List spec.Fragment)
     → Hold r items fs gs → All (λ g. Small (bodies g.body)) gs → All WithLiteral gs → AllSearched r items mirror fs gs
@@ -123,14 +131,19 @@ each_searched r items mirror m (f ∷ fs) (g ∷ gs) (h, hs) (small, smalls) (y,
 )
 
 -- the fragments of a sound sequence can be searched for
-all_searched : (r : Reference) (lo : ℕ) (items mirror : List Placed) (fs : List Fragment)
+pub all_searched : (r : Reference) (lo : ℕ) (items mirror : List Placed) (fs : List Fragment)
     → Sound r lo items mirror fs → AllSearched r items mirror fs (fragments lo items)
 all_searched r lo items mirror fs s =
     let (within, literals) = searchable r items lo s.ordered s.accepted in
     each_searched r items mirror s.mirrors fs (fragments lo items) s.compiled (fragments_small items lo within) literals
 
--- fragments of which the first has another break are those cut with that break
-opened_cut : (qs : List Placed) (from lo : ℕ) (body row : List Placed) → opened from (cut_from lo body row qs) ≡ cut_from from body row qs
+-- fragments of which the first has another break
+abbrev pub opened : ℕ → List spec.Fragment → List spec.Fragment
+opened from [] = []
+opened from (g ∷ gs) = record { break = from; body = g.body } ∷ gs
+
+-- they are those cut with that break
+pub opened_cut : (qs : List Placed) (from lo : ℕ) (body row : List Placed) → opened from (cut_from lo body row qs) ≡ cut_from from body row qs
 opened_cut [] from lo body row = refl
 opened_cut (q ∷ qs) from lo body row =
     elim (cases_Bool (is_gap q.item)) [
@@ -142,70 +155,42 @@ opened_cut (q ∷ qs) from lo body row =
           ]
     ]
 
+-- there is a fragment at least
+pub cut_some : (qs : List Placed) (break : ℕ) (body row : List Placed) → cut_from break body row qs ≡ [] → ⊥
+cut_some [] break body row e = cc
+cut_some (q ∷ qs) break body row e =
+    elim (cases_Bool (is_gap q.item)) [
+      | inl y ↦ cut_some qs break body (row ++ q ∷ []) (sym (cut_gap break body row q qs y) ∙ e)
+      | inr n ↦
+          elim (cases_Bool (some endless row)) [
+            | inl y ↦ let none = sym (cut_thing break body row q qs n y) ∙ e in cc
+            | inr m ↦ cut_some qs break (body ++ (row ++ q ∷ [])) [] (sym (cut_held break body row q qs n m) ∙ e)
+          ]
+    ]
+
 -- What the search answers.
 
--- an answer is that of the search for the fragments, the first of them from a place on
-abbrev Answers : List Placed → List Placed → List Fragment → Bool → ℕ → Option ℕ → List ℕ → Type 0
-Answers items mirror fs b from until xs =
-    (ref : Reference) (gs : List spec.Fragment) → AllSearched ref items mirror fs gs → b ≡ found (opened from gs) 0 until xs
+-- what the search for the fragments of items, in the order of the search, finds in a reading
+abbrev pub finds : Reference → ℕ → ℕ → List Placed → List ℕ → Bool
+finds Front lo hi items xs = found (fragments lo items) 0 (Some hi) xs
+finds Back lo hi items xs = found (fragments lo items) 0 (Some hi) (reverse xs)
+finds Anywhere lo hi items xs = found (fragments 0 items) 0 None xs
 
--- for a sound sequence it is the search for the fragments cut with that break
-answers_cut : (r : Reference) (lo : ℕ) (items mirror : List Placed) (fs : List Fragment) (b : Bool) (from : ℕ) (until : Option ℕ) (xs : List ℕ)
-    → Sound r lo items mirror fs → Answers items mirror fs b from until xs → b ≡ found (fragments from items) 0 until xs
-answers_cut r lo items mirror fs b from until xs s h =
-    h r (fragments lo items) (all_searched r lo items mirror fs s) ∙ ap (λ gs. found gs 0 until xs) (opened_cut items from lo [] [])
-
--- for a sequence from the front it is what the rule says
-answers_front : (lo hi : ℕ) (items mirror : List Placed) (fs : List Fragment) (b : Bool) (xs : List ℕ)
-    → Sound Front lo items mirror fs → Answers items mirror fs b lo (Some hi) xs → b ≡ hits Front lo hi (bodies items) xs
-answers_front lo hi items mirror fs b xs s h =
-    answers_cut Front lo items mirror fs b lo (Some hi) xs s h
-    ∙ (found_exactly items lo hi xs s.ordered (accepted_parts items s.accepted).0).0
-
--- and for one that may stand anywhere
-answers_anywhere : (lo hi : ℕ) (items mirror : List Placed) (fs : List Fragment) (b : Bool) (xs : List ℕ)
-    → Sound Anywhere lo items mirror fs → Answers items mirror fs b 0 None xs → b ≡ hits Anywhere lo hi (bodies items) xs
-answers_anywhere lo hi items mirror fs b xs s h =
-    answers_cut Anywhere lo items mirror fs b 0 None xs s h
-    ∙ (found_exactly items 0 0 xs s.ordered (accepted_parts items s.accepted).0).1
-
--- and for one from the back, over the reversed reading
-answers_back : (lo hi : ℕ) (items mirror : List Placed) (fs : List Fragment) (b : Bool) (xs : List ℕ)
-    → Sound Back lo items mirror fs → Answers items mirror fs b lo (Some hi) (reverse xs) → b ≡ hits Back lo hi (bodies (mirrored_placed items)) xs
-answers_back lo hi items mirror fs b xs s h =
-    let said = mirrored_placed items in
-    answers_cut Back lo items mirror fs b lo (Some hi) (reverse xs) s h
-    ∙ ap (λ l. found (fragments lo l) 0 (Some hi) (reverse xs)) (sym (mirrored_placed_twice items))
-    ∙ found_from_back said lo hi xs s.ordered (accepted_parts said s.accepted).0
-
--- from where a first fragment may start
-abbrev pub from_in : Reference → ℕ → ℕ
-from_in Front lo = lo
-from_in Back lo = lo
-from_in Anywhere lo = 0
-
--- until where a first fragment may start
-abbrev pub until_in : Reference → ℕ → Option ℕ
-until_in Front hi = Some hi
-until_in Back hi = Some hi
-until_in Anywhere hi = None
-
--- the codes of a reading in the order of a search
-abbrev pub codes_in : Reference → List ℕ → List ℕ
-codes_in Front xs = xs
-codes_in Back xs = reverse xs
-codes_in Anywhere xs = xs
-
--- so the answer is what the rule says, whatever the sequence is counted from
-pub answers_hit : (r : Reference) (lo hi : ℕ) (items mirror : List Placed) (fs : List Fragment) (b : Bool) (xs : List ℕ)
-    → ∥ Sound r lo items mirror fs ∥₁ → Answers items mirror fs b (from_in r lo) (until_in r hi) (codes_in r xs) → b ≡ hits r lo hi (bodies (oriented r items)) xs
-answers_hit r lo hi items mirror fs b xs sound h = ∥∥₁_elim sound (Bool-set b _) (λ s. exact r s h)
+-- for a sequence it is what the rule says
+finds_hit : (s : Sequence) (xs : List ℕ) → finds s.reference s.lo s.hi (held s.pattern) xs ≡ hits s.reference s.lo s.hi (bodies (said s)) xs
+finds_hit s xs = ∥∥₁_elim s.sound (Bool-set _ _) (exact s.reference)
   where
-    exact : (r : Reference) → Sound r lo items mirror fs → Answers items mirror fs b (from_in r lo) (until_in r hi) (codes_in r xs) → b ≡ hits r lo hi (bodies (oriented r items)) xs
-    exact Front s h = answers_front lo hi items mirror fs b xs s h
-    exact Back s h = answers_back lo hi items mirror fs b xs s h
-    exact Anywhere s h = answers_anywhere lo hi items mirror fs b xs s h
+    exact : (r : Reference) → Sound r s.lo (held s.pattern) (held s.mirror) (vec_items s.fragments) → finds r s.lo s.hi (held s.pattern) xs ≡ hits r s.lo s.hi (bodies (oriented r (held s.pattern))) xs
+    exact Front k = (found_exactly (held s.pattern) s.lo s.hi xs k.ordered (accepted_parts (held s.pattern) k.accepted).0).0
+    exact Back k =
+        let text = mirrored_placed (held s.pattern) in
+        ap (λ l. found (fragments s.lo l) 0 (Some s.hi) (reverse xs)) (sym (mirrored_placed_twice (held s.pattern)))
+        ∙ found_from_back text s.lo s.hi xs k.ordered (accepted_parts text k.accepted).0
+    exact Anywhere k = (found_exactly (held s.pattern) 0 0 xs k.ordered (accepted_parts (held s.pattern) k.accepted).0).1
 
--- and what the rule says is true exactly when a placement exists
-pub answers_placed : (r : Reference) (lo hi : ℕ) (items : List Item) (xs : List ℕ) (b : Bool) → b ≡ hits r lo hi items xs → Decides b (Placement r lo hi items xs)
-answers_placed r lo hi items xs b e = subst (λ d. Decides d (Placement r lo hi items xs)) (sym e) (hits_exactly r lo hi items xs)
+-- so an answer that says what the search finds is what the rule says, which is true exactly when a placement exists
+pub answered : (s : Sequence) (xs : List ℕ) (b : Bool) → b ≡ finds s.reference s.lo s.hi (held s.pattern) xs
+    → (b ≡ hits s.reference s.lo s.hi (bodies (said s)) xs) × Decides b (Placement s.reference s.lo s.hi (bodies (said s)) xs)
+answered s xs b e =
+    let is = e ∙ finds_hit s xs in
+    (is, subst (λ d. Decides d (Placement s.reference s.lo s.hi (bodies (said s)) xs)) (sym is) (hits_exactly s.reference s.lo s.hi (bodies (said s)) xs))

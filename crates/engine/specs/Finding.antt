@@ -8,6 +8,7 @@ use Rattle.kinds.specs.Spans.{Anchored, SmallParts, Spans}
 use Rattle.rows.specs.Rows.{member}
 use Rattle.rows.specs.declared.Row.{Row}
 use Rattle.engine.specs.declared.fragment.Fragment.{Fragment}
+use Rattle.engine.specs.declared.starts.Starts.{Starts}
 
 -- a row has as members the offsets below 1,024 that items reach
 abbrev pub Reached : List Item → List ℕ → Row → Type 0
@@ -17,13 +18,13 @@ Reached items xs row = (j : ℕ) → member row j ≡ (nat_lt j 1024 && reaches 
 abbrev pub part_of : List Placed → ℕ → ℕ → List Item
 part_of qs from to = bodies (take (to - from) (drop from qs))
 
--- a member of a row that leads from a place back to a start from `from` to `until`
-pub record Start (row : Row) (place from : ℕ) (until : Option ℕ) : Type 0 where
+-- a member of a row that leads from a place back to a start where a placement may start
+pub record Start (row : Row) (place : ℕ) (starts : Starts) : Type 0 where
   pub distance : ℕ
   pub held : member row distance ≡ true
   pub inside : distance ≤ place
-  pub late : from ≤ place - distance
-  pub early : AtMost until (place - distance)
+  pub late : starts.from ≤ place - distance
+  pub early : AtMost starts.until (place - distance)
 
 -- a fragment's bounds among as many items
 pub record Bounds (count : ℕ) (f : Fragment) : Type 0 where
@@ -40,10 +41,10 @@ pub record Sides (items mirror : List Placed) (f : Fragment) (a : Anchor) : Type
   pub small : SmallParts a
 
 -- the least end of a placement whose anchor stands at a place, or none
-abbrev pub LeastThrough : Anchor → ℕ → Option ℕ → List ℕ → ℕ → Option ℕ → Type 0
-LeastThrough a from until xs p None = (e : ℕ) → Anchored a.front a.codes a.back from until xs p e → ⊥
-LeastThrough a from until xs p (Some b) =
-    Anchored a.front a.codes a.back from until xs p b × ((e : ℕ) → Spans a.back xs (p + length a.codes) e → b ≤ e)
+abbrev pub LeastThrough : Anchor → Starts → List ℕ → ℕ → Option ℕ → Type 0
+LeastThrough a starts xs p None = (e : ℕ) → Anchored a.front a.codes a.back starts.from starts.until xs p e → ⊥
+LeastThrough a starts xs p (Some b) =
+    Anchored a.front a.codes a.back starts.from starts.until xs p b × ((e : ℕ) → Spans a.back xs (p + length a.codes) e → b ≤ e)
 
 -- the smaller of two numbers, where there are both
 abbrev pub smaller_of : Option ℕ → Option ℕ → Option ℕ

@@ -1,5 +1,5 @@
 -- What the search of a compiled sequence relies on, and what it answers.
-use Rattle.std.specs.Prelude.{◌≡◌, ℕ, ◌<◌, List, [], ◌∷◌, length, None}
+use Rattle.std.specs.Prelude.{◌≡◌, ℕ, ◌<◌, List, length, None}
 use Rattle.kinds.specs.Fragments as spec
 use Rattle.kinds.specs.Fragments.{anchor, bodies, fragments, mirrored_placed, oriented}
 use Rattle.kinds.specs.Grammar.{Placed, Ordered, start}
@@ -16,18 +16,6 @@ pub record Searched (r : Reference) (items mirror : List Placed) (f : Fragment) 
   pub mirrors : mirror ≡ mirrored_placed items
   pub small : Small (bodies g.body)
   pub coded : 0 < length (anchor r (bodies g.body)).codes
-
--- compiled fragments that can be searched for, one for one
-abbrev pub AllSearched : Reference → List Placed → List Placed → List Fragment → List spec.Fragment → Type 0
-AllSearched r items mirror [] [] = Unit {0}
-AllSearched r items mirror [] (g ∷ gs) = ⊥
-AllSearched r items mirror (f ∷ fs) [] = ⊥
-AllSearched r items mirror (f ∷ fs) (g ∷ gs) = Searched r items mirror f g × AllSearched r items mirror fs gs
-
--- fragments of which the first has another break
-abbrev pub opened : ℕ → List spec.Fragment → List spec.Fragment
-opened from [] = []
-opened from (g ∷ gs) = record { break = from; body = g.body } ∷ gs
 
 -- A sequence that the compiler can have made: the items, in the order of the text, are a text's and not refused; the
 -- mirrored items are theirs, and the fragments hold their fragments.

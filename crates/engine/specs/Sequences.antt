@@ -12,10 +12,12 @@ use Rattle.kinds.specs.declared.pattern.Reference.{Reference}
 use Rattle.engine.specs.Compiled.{Hold}
 use Rattle.engine.specs.Limits.{refusal}
 use Rattle.engine.specs.Reading.{held}
+use Rattle.engine.specs.Searched.{Searched}
 use Rattle.engine.specs.declared.cause.Cause.{Cause}
 use Rattle.engine.specs.declared.cause.Cause.TheVariants.{Grammar}
 use Rattle.engine.specs.declared.fault.Failure.{Failure}
 use Rattle.engine.specs.declared.fault.Failure.TheVariants as failure
+use Rattle.engine.specs.declared.fragment.Fragment.{Fragment}
 use Rattle.engine.specs.declared.pattern.Pattern.{Pattern}
 use Rattle.engine.specs.declared.sequence.Sequence.{Sequence}
 
@@ -39,6 +41,10 @@ Checked a t sequence (Err f) = Refused a t sequence f
 -- the items of a sequence, in the order of its text
 abbrev pub said : Sequence → List Placed
 said s = oriented s.reference (held s.pattern)
+
+-- a compiled fragment that can be searched for in a sequence's patterns, as a fragment
+abbrev pub Searches : Sequence → Fragment → spec.Fragment → Type 0
+Searches s f g = Searched s.reference (held s.pattern) (held s.mirror) f g
 
 -- A sequence is compiled from the items of its text, in the order of its search.
 pub record CompiledFrom {E : Type 0} (a : Alphabet E) (t : List ℕ) (r : Reference) (lo hi : ℕ) (s : Sequence) : Type 0 where

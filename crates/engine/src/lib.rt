@@ -22,6 +22,7 @@ pub mod scan;
 pub mod search;
 pub mod sequence;
 mod smaller;
+mod starts;
 mod step;
 mod store;
 pub mod text;

@@ -1,0 +1,53 @@
+// Where a placement may start.
+ghost use Rattle.std.specs.Prelude.{◌≡◌, ℕ, ◌+◌, ◌<◌, ◌≤◌, Decides, MatchOption};
+ghost use Rattle.engine.specs.Finding.{Start};
+ghost use Rattle.kinds.specs.Patterns.{AtMost};
+
+use rows::Row;
+
+// The most elements that a fragment spans.
+const LONGEST: u64 = 1024;
+
+// The places from one on and, where there is a bound, not past it.
+#[derive(Clone, Copy)]
+pub(crate) struct Starts {
+    pub(crate) from: u64,
+    pub(crate) until: Option<u64>,
+}
+
+impl Starts {
+    // The first place where the anchor of a placement can stand, `lead` elements behind its start, if a reading can have it.
+    pub(crate) fn first_place(self, lead: u64) -> Option<u32>
+        ensures { MatchOption result (4294967295 < self.from + lead) (λ place. place ≡ self.from + lead) }
+    {
+        place_behind(self.from, lead)
+    }
+
+    // The last place where the anchor of a placement can stand in a reading.
+    pub(crate) fn last_place(self) -> u32
+        ensures { (start place : ℕ) → AtMost self.until start → place < start + 1024 → place ≤ 4294967295 → place ≤ result }
+    {
+        self.until.map_or(u32::MAX, |until| {
+            u32::try_from(until.saturating_add(LONGEST)).unwrap_or(u32::MAX)
+        })
+    }
+
+    // Whether some member of a row, as a distance from a place back, leads to one of them.
+    pub(crate) fn reached(self, row: &Row, place: u64) -> bool
+        ensures { Decides result (Start row.now place self) }
+    {
+        let Some(most) = place.checked_sub(self.from) else {
+            return false;
+        };
+        let least = self.until.map_or(0, |until| place.saturating_sub(until));
+        row.first_from(least as usize)
+            .is_some_and(|distance| distance as u64 <= most)
+    }
+}
+
+// The place that stands so many elements behind another, if a reading can have it.
+pub(crate) fn place_behind(place: u64, distance: u64) -> Option<u32>
+    ensures { MatchOption result (4294967295 < place + distance) (λ behind. behind ≡ place + distance) }
+{
+    u32::try_from(place.checked_add(distance)?).ok()
+}

@@ -1,14 +1,12 @@
 // Measures the search: how long a file's bytes are searched for a pattern text.
 #![tactic(auto)]
 
-use engine::fault::Failure;
 use engine::text::compiled;
 use kinds::backward::Backward;
 use kinds::byte::Byte;
 use kinds::held::Held;
-use kinds::pattern::Reference;
+use kinds::pattern::{Offsets, Reference};
 use kinds::reading::Reading;
-use std::alloc::Global;
 use std::process::ExitCode;
 use std::{env, fs, io};
 
@@ -19,6 +17,13 @@ mod request;
 use complaint::Complaint;
 use measure::measured;
 use request::{Order, Request, request_of};
+
+// The text may stand at any place.
+const ANYWHERE: Offsets = Offsets {
+    reference: Reference::Anywhere,
+    lo: 0,
+    hi: 0,
+};
 
 const USAGE: &str = "bench FILE TEXT [RUNS] [backward]";
 
@@ -34,23 +39,15 @@ fn answer(rt: &HostRuntime, request: Request) -> Result<String, Complaint> {
     let bytes = bytes_of(rt, request.file)?;
     let held = Held::new(bytes.as_slice());
     let text = request.text.as_bytes();
-    let sequence = match compiled::<Byte>(heap, 1, Reference::Anywhere, 0, 0, text) {
+    let sequence = match compiled::<Byte>(heap, 1, ANYWHERE, text) {
         Ok(sequence) => sequence,
-        Err(failure) => return refusal(heap, failure),
+        Err(failure) => return Ok(failure.to_line(heap)?),
     };
     let measure = match request.order {
         Order::Forward => measured(rt, &sequence, &held, request.runs)?,
         Order::Backward => measured(rt, &sequence, &Backward::new(held), request.runs)?,
     };
     Ok(format!(in heap; "{measure}")?)
-}
-
-// A refusal as a line; want of memory is none.
-fn refusal(heap: Global, failure: Failure) -> Result<String, Complaint> {
-    match failure {
-        Failure::Memory => Err(Complaint::Memory),
-        Failure::Refused(fault) => Ok(format!(in heap; "{fault}")?),
-    }
 }
 
 // Prints the answer to the words of the call.

@@ -64,7 +64,7 @@ Least s f from until xs o = (g : spec.Fragment) → Searches s f g → o ≡ lea
 module _ (s : Sequence) (starts : Starts) (xs : List ℕ) where
   -- the fragments of the sequence
   abbrev pub gs : List spec.Fragment
-  gs = fragments s.lo (held s.pattern)
+  gs = fragments s.offsets.lo (held s.pattern)
 
   -- what the search for them answers, the first of them starting where it may
   abbrev pub all_found : Bool
@@ -75,24 +75,24 @@ module _ (s : Sequence) (starts : Starts) (xs : List ℕ) where
       → ((g : spec.Fragment) → drop i gs ≡ g ∷ drop (suc i) gs → Searches s f g → b ≡ c) → b ≡ c
   at_fragment i f is inside b c h =
       ∥∥₁_elim s.sound (Bool-set b c) (λ sound.
-      let all = all_searched s.reference s.lo (held s.pattern) (held s.mirror) (vec_items s.fragments) sound in
-      let (g, there, k) = searched_at s.reference (held s.pattern) (held s.mirror) (vec_items s.fragments) gs i f is all inside in
+      let all = all_searched s.offsets.reference s.offsets.lo (held s.pattern) (held s.mirror) (vec_items s.fragments) sound in
+      let (g, there, k) = searched_at s.offsets.reference (held s.pattern) (held s.mirror) (vec_items s.fragments) gs i f is all inside in
       h g there k)
 
   -- past the last compiled fragment there is none of them
   past_all : (i : ℕ) → length (vec_items s.fragments) ≤ i → (b c : Bool) → (drop i gs ≡ [] → b ≡ c) → b ≡ c
   past_all i past b c h =
       ∥∥₁_elim s.sound (Bool-set b c) (λ sound.
-      let all = all_searched s.reference s.lo (held s.pattern) (held s.mirror) (vec_items s.fragments) sound in
-      h (searched_all s.reference (held s.pattern) (held s.mirror) (vec_items s.fragments) gs i all past))
+      let all = all_searched s.offsets.reference s.offsets.lo (held s.pattern) (held s.mirror) (vec_items s.fragments) sound in
+      h (searched_all s.offsets.reference (held s.pattern) (held s.mirror) (vec_items s.fragments) gs i all past))
 
   -- where the first may start changes nothing but its break
   first_opened : (g : spec.Fragment) → drop 0 gs ≡ g ∷ drop 1 gs → all_found ≡ found (record { break = starts.from; body = g.body } ∷ drop 1 gs) 0 starts.until xs
-  first_opened g is = ap (λ fs. found fs 0 starts.until xs) (sym (opened_cut (held s.pattern) starts.from s.lo [] []) ∙ ap (opened starts.from) is)
+  first_opened g is = ap (λ fs. found fs 0 starts.until xs) (sym (opened_cut (held s.pattern) starts.from s.offsets.lo [] []) ∙ ap (opened starts.from) is)
 
   -- there is a first one
   pub first_some : length (vec_items s.fragments) ≤ 0 → false ≡ all_found
-  first_some none = past_all 0 none false all_found (λ e. absurd (cut_some (held s.pattern) s.lo [] [] e))
+  first_some none = past_all 0 none false all_found (λ e. absurd (cut_some (held s.pattern) s.offsets.lo [] [] e))
 
   module _ (first : Fragment) (others : List Fragment) (whole : vec_items s.fragments ≡ first ∷ others) where
     -- the first is searched for as the first

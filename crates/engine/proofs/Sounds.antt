@@ -177,20 +177,20 @@ finds Back lo hi items xs = found (fragments lo items) 0 (Some hi) (reverse xs)
 finds Anywhere lo hi items xs = found (fragments 0 items) 0 None xs
 
 -- for a sequence it is what the rule says
-finds_hit : (s : Sequence) (xs : List ℕ) → finds s.reference s.lo s.hi (held s.pattern) xs ≡ hits s.reference s.lo s.hi (bodies (said s)) xs
-finds_hit s xs = ∥∥₁_elim s.sound (Bool-set _ _) (exact s.reference)
+finds_hit : (s : Sequence) (xs : List ℕ) → finds s.offsets.reference s.offsets.lo s.offsets.hi (held s.pattern) xs ≡ hits s.offsets.reference s.offsets.lo s.offsets.hi (bodies (said s)) xs
+finds_hit s xs = ∥∥₁_elim s.sound (Bool-set _ _) (exact s.offsets.reference)
   where
-    exact : (r : Reference) → Sound r s.lo (held s.pattern) (held s.mirror) (vec_items s.fragments) → finds r s.lo s.hi (held s.pattern) xs ≡ hits r s.lo s.hi (bodies (oriented r (held s.pattern))) xs
-    exact Front k = (found_exactly (held s.pattern) s.lo s.hi xs k.ordered (accepted_parts (held s.pattern) k.accepted).0).0
+    exact : (r : Reference) → Sound r s.offsets.lo (held s.pattern) (held s.mirror) (vec_items s.fragments) → finds r s.offsets.lo s.offsets.hi (held s.pattern) xs ≡ hits r s.offsets.lo s.offsets.hi (bodies (oriented r (held s.pattern))) xs
+    exact Front k = (found_exactly (held s.pattern) s.offsets.lo s.offsets.hi xs k.ordered (accepted_parts (held s.pattern) k.accepted).0).0
     exact Back k =
         let text = mirrored_placed (held s.pattern) in
-        ap (λ l. found (fragments s.lo l) 0 (Some s.hi) (reverse xs)) (sym (mirrored_placed_twice (held s.pattern)))
-        ∙ found_from_back text s.lo s.hi xs k.ordered (accepted_parts text k.accepted).0
+        ap (λ l. found (fragments s.offsets.lo l) 0 (Some s.offsets.hi) (reverse xs)) (sym (mirrored_placed_twice (held s.pattern)))
+        ∙ found_from_back text s.offsets.lo s.offsets.hi xs k.ordered (accepted_parts text k.accepted).0
     exact Anywhere k = (found_exactly (held s.pattern) 0 0 xs k.ordered (accepted_parts (held s.pattern) k.accepted).0).1
 
 -- so an answer that says what the search finds is what the rule says, which is true exactly when a placement exists
-pub answered : (s : Sequence) (xs : List ℕ) (b : Bool) → b ≡ finds s.reference s.lo s.hi (held s.pattern) xs
-    → (b ≡ hits s.reference s.lo s.hi (bodies (said s)) xs) × Decides b (Placement s.reference s.lo s.hi (bodies (said s)) xs)
+pub answered : (s : Sequence) (xs : List ℕ) (b : Bool) → b ≡ finds s.offsets.reference s.offsets.lo s.offsets.hi (held s.pattern) xs
+    → (b ≡ hits s.offsets.reference s.offsets.lo s.offsets.hi (bodies (said s)) xs) × Decides b (Placement s.offsets.reference s.offsets.lo s.offsets.hi (bodies (said s)) xs)
 answered s xs b e =
     let is = e ∙ finds_hit s xs in
-    (is, subst (λ d. Decides d (Placement s.reference s.lo s.hi (bodies (said s)) xs)) (sym is) (hits_exactly s.reference s.lo s.hi (bodies (said s)) xs))
+    (is, subst (λ d. Decides d (Placement s.offsets.reference s.offsets.lo s.offsets.hi (bodies (said s)) xs)) (sym is) (hits_exactly s.offsets.reference s.offsets.lo s.offsets.hi (bodies (said s)) xs))

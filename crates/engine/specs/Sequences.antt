@@ -40,11 +40,11 @@ Checked a t sequence (Err f) = Refused a t sequence f
 
 -- the items of a sequence, in the order of its text
 abbrev pub said : Sequence → List Placed
-said s = oriented s.reference (held s.pattern)
+said s = oriented s.offsets.reference (held s.pattern)
 
 -- a compiled fragment that can be searched for in a sequence's patterns, as a fragment
 abbrev pub Searches : Sequence → Fragment → spec.Fragment → Type 0
-Searches s f g = Searched s.reference (held s.pattern) (held s.mirror) f g
+Searches s f g = Searched s.offsets.reference (held s.pattern) (held s.mirror) f g
 
 -- A sequence is compiled from the items of its text, in the order of its search.
 pub record CompiledFrom {E : Type 0} (a : Alphabet E) (t : List ℕ) (r : Reference) (lo hi : ℕ) (s : Sequence) : Type 0 where
@@ -52,8 +52,8 @@ pub record CompiledFrom {E : Type 0} (a : Alphabet E) (t : List ℕ) (r : Refere
   pub read : outcome a t ≡ Ok items
   pub pattern : held s.pattern ≡ oriented r items
   pub fragments : Hold r (held s.pattern) (vec_items s.fragments) (fragments lo (oriented r items))
-  pub reference : s.reference ≡ r
-  pub offsets : (s.lo ≡ lo) × (s.hi ≡ hi)
+  pub reference : s.offsets.reference ≡ r
+  pub offsets : (s.offsets.lo ≡ lo) × (s.offsets.hi ≡ hi)
 
 abbrev pub Compiled : {E : Type 0} → Alphabet E → List ℕ → ℕ → Reference → ℕ → ℕ → Result Sequence Failure → Type 0
 Compiled a t number r lo hi (Ok s) = CompiledFrom a t r lo hi s

@@ -1,10 +1,11 @@
 // Why a call has no answer.
-ghost use Rattle.std.specs.Prelude.{◌≡◌, Some};
+ghost use Rattle.std.specs.Prelude.{◌≡◌, Some, IfOk, string_bytes};
 ghost use Rattle.engine.specs.Refusals.{line};
-ghost use Rattle.engine.specs.declared.fault.Failure.TheVariants.{Memory};
+ghost use Rattle.engine.specs.declared.fault.Failure.TheVariants.{Memory, Refused};
+ghost use Rattle.engine.specs.declared.fault.Fault.{Fault as RefusedAs};
 
 use crate::cause::Cause;
-use std::alloc::AllocError;
+use std::alloc::{AllocError, Global};
 use std::fmt;
 
 // A refusal of an input: its cause, the number of the sequence (0 outside one), and the place. It goes up unchanged.
@@ -32,6 +33,18 @@ impl fmt::Display for Fault {
 pub enum Failure {
     Memory,
     Refused(Fault),
+}
+
+impl Failure {
+    // The refusal as a line. Want of memory is none, and goes up as the error.
+    pub fn to_line(self, heap: Global) -> Result<String, AllocError>
+        ensures { IfOk result (λ text. (fault : RefusedAs) × (self ≡ Refused fault) × (string_bytes text ≡ line fault)) }
+    {
+        match self {
+            Failure::Memory => Err(AllocError),
+            Failure::Refused(fault) => format!(in heap; "{fault}"),
+        }
+    }
 }
 
 // Whatever could not be allocated is want of memory.

@@ -33,14 +33,14 @@ fn last_end<R: Reading>(sequence: &Sequence, reading: &R, starts: Starts) -> Opt
 
 // Whether a sequence hits a reading: the decision of the rule, which is true exactly when a placement exists.
 pub fn hits<R: Reading>(sequence: &Sequence, reading: &R) -> bool
-    ensures decision { result ≡ hits_by_rule sequence.now.reference sequence.now.lo sequence.now.hi (bodies (said sequence.now)) (codes_of R.Element.alphabet (R.elements reading.now)) }
-    ensures placement { Decides result (Placement sequence.now.reference sequence.now.lo sequence.now.hi (bodies (said sequence.now)) (codes_of R.Element.alphabet (R.elements reading.now))) }
+    ensures decision { result ≡ hits_by_rule sequence.now.offsets.reference sequence.now.offsets.lo sequence.now.offsets.hi (bodies (said sequence.now)) (codes_of R.Element.alphabet (R.elements reading.now)) }
+    ensures placement { Decides result (Placement sequence.now.offsets.reference sequence.now.offsets.lo sequence.now.offsets.hi (bodies (said sequence.now)) (codes_of R.Element.alphabet (R.elements reading.now))) }
 {
     let starts = Starts {
-        from: u64::from(sequence.lo),
-        until: Some(u64::from(sequence.hi)),
+        from: u64::from(sequence.offsets.lo),
+        until: Some(u64::from(sequence.offsets.hi)),
     };
-    match sequence.reference {
+    match sequence.offsets.reference {
         Reference::Front => last_end(sequence, reading, starts).is_some(),
         Reference::Back => {
             let backward = Backward::new(Lent { reading });

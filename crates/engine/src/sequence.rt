@@ -4,17 +4,15 @@ ghost use Rattle.engine.specs.Searched.{Sound};
 
 use crate::fragment::Fragment;
 use crate::pattern::Pattern;
-use kinds::pattern::Reference;
+use kinds::pattern::Offsets;
 
 // The pattern stands in the order of the search: mirrored for a sequence from the back.
 #[derive(Drop)]
 pub struct Sequence {
-    pub(crate) reference: Reference,
-    pub(crate) lo: u16,
-    pub(crate) hi: u16,
+    pub(crate) offsets: Offsets,
     pub(crate) pattern: Pattern,
     // The pattern mirrored, to look back from an anchor.
     pub(crate) mirror: Pattern,
     pub(crate) fragments: Vec<Fragment>,
-    ghost sound: { ∥ Sound reference lo (held pattern) (held mirror) fragments.items ∥₁ },
+    ghost sound: { ∥ Sound offsets.reference offsets.lo (held pattern) (held mirror) fragments.items ∥₁ },
 }

@@ -18,7 +18,7 @@ use crate::reader::read;
 use crate::search::hits;
 use crate::sequence::Sequence;
 use kinds::kind::Kind;
-use kinds::pattern::Reference;
+use kinds::pattern::{Offsets, Reference};
 use kinds::reading::Reading;
 use std::alloc::Global;
 
@@ -51,20 +51,17 @@ fn in_order(pattern: Pattern, reference: Reference) -> Pattern
 pub fn compiled<K: Kind>(
     heap: Global,
     number: u8,
-    reference: Reference,
-    lo: u16,
-    hi: u16,
+    offsets: Offsets,
     text: &[u8],
 ) -> Result<Sequence, Failure>
-    ensures { Compiled K.alphabet text.now number reference lo hi result }
+    ensures { Compiled K.alphabet text.now number offsets.reference offsets.lo offsets.hi result }
 {
+    let Offsets { reference, lo, .. } = offsets;
     let pattern = in_order(checked::<K>(heap, number, text)?, reference);
     let mirror = mirrored(pattern.copied(heap)?);
     let fragments = fragments_of(heap, &pattern, reference, lo)?;
     Ok(Sequence {
-        reference,
-        lo,
-        hi,
+        offsets,
         pattern,
         mirror,
         fragments,
@@ -91,29 +88,26 @@ fn numbers_of(fragments: &[Fragment], number: usize, index: u8) -> Option<(u64, 
 // What a text compiles to, by the number of a fragment and an index, or the text's refusal.
 pub fn show<K: Kind>(
     heap: Global,
-    reference: Reference,
-    lo: u16,
+    offsets: Offsets,
     text: &[u8],
     number: usize,
     index: u8,
 ) -> Result<Option<(u64, u64, usize, u32)>, Failure>
-    ensures { Shown K.alphabet text.now 1 reference lo number index result }
+    ensures { Shown K.alphabet text.now 1 offsets.reference offsets.lo number index result }
 {
-    let sequence = compiled::<K>(heap, 1, reference, lo, lo, text)?;
+    let sequence = compiled::<K>(heap, 1, offsets, text)?;
     Ok(numbers_of(sequence.fragments.as_slice(), number, index))
 }
 
 // Whether a text, compiled, hits a reading; or the text's refusal.
 pub fn hit<R: Reading>(
     heap: Global,
-    reference: Reference,
-    lo: u16,
-    hi: u16,
+    offsets: Offsets,
     text: &[u8],
     reading: &R,
 ) -> Result<bool, Failure>
-    ensures { Hit R.Element.alphabet text.now 1 reference lo hi (codes_of R.Element.alphabet (R.elements reading.now)) result }
+    ensures { Hit R.Element.alphabet text.now 1 offsets.reference offsets.lo offsets.hi (codes_of R.Element.alphabet (R.elements reading.now)) result }
 {
-    let sequence = compiled::<R::Element>(heap, 1, reference, lo, hi, text)?;
+    let sequence = compiled::<R::Element>(heap, 1, offsets, text)?;
     Ok(hits(&sequence, reading))
 }

@@ -8,6 +8,14 @@ pub enum Reference {
     Anywhere,
 }
 
+// A reference with the least and the greatest offset from it. Where a sequence may stand anywhere they count for nothing.
+#[derive(Clone, Copy, PartialEq, Eq, Debug)]
+pub struct Offsets {
+    pub reference: Reference,
+    pub lo: u16,
+    pub hi: u16,
+}
+
 // Where the comparison of two runs begins: at the first element, or at the last.
 #[derive(Clone, Copy, PartialEq, Eq, Debug)]
 pub enum Direction {

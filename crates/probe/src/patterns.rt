@@ -1,15 +1,14 @@
 // The commands on pattern texts.
 use crate::complaint::Complaint;
 use crate::elements::elements_of;
-use engine::fault::Failure;
 use engine::limits::fragment_count;
 use engine::text;
 use engine::text::{checked, show};
 use kinds::byte::Byte;
 use kinds::held::Held;
 use kinds::kind::Kind;
-use kinds::pattern::Reference;
-use std::alloc::{AllocError, Global};
+use kinds::pattern::{Offsets, Reference};
+use std::alloc::Global;
 use std::str::FromStr;
 
 // A sequence as a line gives it.
@@ -37,14 +36,6 @@ impl<'l> TryFrom<&[&'l str]> for Sequence<'l> {
     }
 }
 
-// A reference with its least and greatest offset.
-#[derive(Clone, Copy)]
-struct Offsets {
-    reference: Reference,
-    lo: u16,
-    hi: u16,
-}
-
 // The letter of a reference.
 struct Letter(Reference);
 
@@ -61,13 +52,12 @@ impl FromStr for Letter {
     }
 }
 
-impl TryFrom<Sequence<'_>> for Offsets {
-    type Error = Complaint;
-
-    fn try_from(sequence: Sequence) -> Result<Offsets, Complaint> {
-        let Letter(reference) = sequence.reference.parse()?;
-        let lo = number_of(sequence.lo)?;
-        let hi = number_of(sequence.hi)?;
+impl Sequence<'_> {
+    // Its reference and offsets, as a record has them.
+    fn offsets(self) -> Result<Offsets, Complaint> {
+        let Letter(reference) = self.reference.parse()?;
+        let lo = number_of(self.lo)?;
+        let hi = number_of(self.hi)?;
         match reference {
             Reference::Anywhere if lo > 0 || hi > 0 => Err(Complaint::OffsetsAnywhere),
             Reference::Front | Reference::Back if lo > hi => Err(Complaint::OffsetsCrossed),
@@ -83,7 +73,7 @@ pub fn read<K: Kind>(heap: Global, text: &str) -> Result<String, Complaint> {
             let count = fragment_count(&pattern);
             Ok(format!(in heap; "ok {count}")?)
         }
-        Err(failure) => refusal(heap, failure),
+        Err(failure) => Ok(failure.to_line(heap)?),
     }
 }
 
@@ -94,46 +84,35 @@ pub fn shown<K: Kind>(
     fragment: &str,
     index: &str,
 ) -> Result<String, Complaint> {
-    let offsets = Offsets::try_from(sequence)?;
+    let offsets = sequence.offsets()?;
     let fragment = number_of(fragment)?;
     let index = index_of(index)?;
     match show::<K>(
         heap,
-        offsets.reference,
-        offsets.lo,
+        offsets,
         sequence.text.as_bytes(),
         usize::from(fragment),
         index,
     ) {
         Ok(Some((gap, lead, len, shift))) => Ok(format!(in heap; "{gap} {lead} {len} {shift}")?),
         Ok(None) => Ok(String::from_str(heap, "none")?),
-        Err(failure) => refusal(heap, failure),
+        Err(failure) => Ok(failure.to_line(heap)?),
     }
 }
 
 // Whether a sequence hits the reading of the elements, or the text's refusal.
 pub fn hit<K: Kind>(heap: Global, sequence: Sequence, elements: &str) -> Result<String, Complaint> {
-    let offsets = Offsets::try_from(sequence)?;
+    let offsets = sequence.offsets()?;
     let elements: Vec<K> = elements_of(heap, elements)?;
     match text::hit(
         heap,
-        offsets.reference,
-        offsets.lo,
-        offsets.hi,
+        offsets,
         sequence.text.as_bytes(),
         &Held::new(elements.as_slice()),
     ) {
         Ok(true) => Ok(String::from_str(heap, "hit")?),
         Ok(false) => Ok(String::from_str(heap, "miss")?),
-        Err(failure) => refusal(heap, failure),
-    }
-}
-
-// A refusal as a line; want of memory is none.
-fn refusal(heap: Global, failure: Failure) -> Result<String, Complaint> {
-    match failure {
-        Failure::Memory => Err(Complaint::Memory(AllocError)),
-        Failure::Refused(fault) => Ok(format!(in heap; "{fault}")?),
+        Err(failure) => Ok(failure.to_line(heap)?),
     }
 }
 

@@ -10,7 +10,7 @@ use Rattle.engine.proofs.find.least_end.Given as goal
 abbrev pub invariant-loop-fit : goal.invariant-loop-fit
 invariant-loop-fit g l =
     (f : spec.Fragment) → Searches l.sequence l.fragment f
-    → Best (anchor l.sequence.reference (bodies f.body)) l.starts (codes_of g.R.Element.Kind.alphabet (g.R.Reading.elements l.reading)) l.place l.last l.best
+    → Best (anchor l.sequence.offsets.reference (bodies f.body)) l.starts (codes_of g.R.Element.Kind.alphabet (g.R.Reading.elements l.reading)) l.place l.last l.best
 
 -- how many places are left
 abbrev pub decreases-loop-fit : goal.decreases-loop-fit

@@ -15,7 +15,7 @@ returns-in-Front g c =
     answered s xs c.is_some.result
     (c.is_some.ensures ∙ c.last_end.ensures
     ∙ (λ i. found (fragments (c.from.ensures i) (held s.pattern)) 0 (Some (c.from-2.ensures i)) xs)
-    ∙ ap (λ r. finds r s.lo s.hi (held s.pattern) xs) (sym c.in-Front.is)) in
+    ∙ ap (λ r. finds r s.offsets.lo s.offsets.hi (held s.pattern) xs) (sym c.in-Front.is)) in
     record { decision = answer.0; placement = answer.1 }
 
 pub returns-in-Back : goal.returns-in-Back
@@ -29,7 +29,7 @@ returns-in-Back g c =
     answered s xs c.is_some-in-Back.result
     (c.is_some-in-Back.ensures ∙ c.last_end-in-Back.ensures
     ∙ (λ i. found (fragments (c.from.ensures i) (held s.pattern)) 0 (Some (c.from-2.ensures i)) (codes i))
-    ∙ ap (λ r. finds r s.lo s.hi (held s.pattern) xs) (sym c.in-Back.is)) in
+    ∙ ap (λ r. finds r s.offsets.lo s.offsets.hi (held s.pattern) xs) (sym c.in-Back.is)) in
     record { decision = answer.0; placement = answer.1 }
 
 pub returns-in-Anywhere : goal.returns-in-Anywhere
@@ -39,5 +39,5 @@ returns-in-Anywhere g c =
     let answer =
     answered s xs c.is_some-in-Anywhere.result
     (c.is_some-in-Anywhere.ensures ∙ c.last_end-in-Anywhere.ensures
-    ∙ ap (λ r. finds r s.lo s.hi (held s.pattern) xs) (sym c.in-Anywhere.is)) in
+    ∙ ap (λ r. finds r s.offsets.lo s.offsets.hi (held s.pattern) xs) (sym c.in-Anywhere.is)) in
     record { decision = answer.0; placement = answer.1 }

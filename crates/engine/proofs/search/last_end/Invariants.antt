@@ -10,4 +10,4 @@ abbrev pub invariant-loop-fragment : goal.invariant-loop-fragment
 invariant-loop-fragment g l =
     let items = held l.sequence.pattern in
     let xs = codes_of g.R.Element.Kind.alphabet (g.R.Reading.elements l.reading) in
-    found (fragments l.fn.starts.from items) 0 l.fn.starts.until xs ≡ found (drop (suc l.fragment-index) (fragments l.sequence.lo items)) l.end None xs
+    found (fragments l.fn.starts.from items) 0 l.fn.starts.until xs ≡ found (drop (suc l.fragment-index) (fragments l.sequence.offsets.lo items)) l.end None xs

@@ -8,4 +8,4 @@ pub invariant_of-result : goal.invariant_of-result
 invariant_of-result g c =
     let items = held c.in_order-pattern.result in
     let mirrors = c.mirrored-mirror.ensures ∙ ap mirrored_placed c.in_ok-copied.ensures in
-    record { sound = ∣ compiled_sound g.K.Kind.alphabet c.args.text.now c.args.reference c.args.lo (held c.in_ok-checked.field-0) items (held c.mirrored-mirror.result) (vec_items c.in_ok-fragments.fragments) c.in_ok-checked.ensures c.in_order-pattern.ensures mirrors c.in_ok-fragments.ensures ∣₁ }
+    record { sound = ∣ compiled_sound g.K.Kind.alphabet c.args.text.now c.args.offsets.reference c.args.offsets.lo (held c.in_ok-checked.field-0) items (held c.mirrored-mirror.result) (vec_items c.in_ok-fragments.fragments) c.in_ok-checked.ensures c.in_order-pattern.ensures mirrors c.in_ok-fragments.ensures ∣₁ }

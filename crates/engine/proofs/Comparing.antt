@@ -17,6 +17,7 @@ use Rattle.std.proofs.lemmas.List.Elements.{filter_map-append}
 use Rattle.std.proofs.lemmas.Option.{slice_get-get_or}
 use Rattle.std.proofs.lemmas.Bool.{eq-eqb}
 use Rattle.std.proofs.lemmas.Bool.Decides.{nat_tests}
+use Rattle.std.proofs.lemmas.Cmp.{same_from_slice_cmp}
 use Rattle.kinds.specs.Patterns.{compared, between, matches, range, up_to}
 use Rattle.kinds.specs.Search.{stretch}
 use Rattle.kinds.specs.declared.pattern.Direction.{Direction}
@@ -24,7 +25,7 @@ use Rattle.kinds.specs.declared.pattern.Direction.TheVariants.{FirstOn, LastOn}
 use Rattle.kinds.proofs.Searches.{length_stretch}
 
 -- the codes at the places from one on
-pub codes_from : (xs : List ℕ) (at n : ℕ) → at + n ≤ length xs → filter_map (slice_get xs) (range_with_len at n) ≡ take n (drop at xs)
+codes_from : (xs : List ℕ) (at n : ℕ) → at + n ≤ length xs → filter_map (slice_get xs) (range_with_len at n) ≡ take n (drop at xs)
 codes_from xs at zero h = refl
 codes_from xs at (suc n) h =
     ap (λ o. cons_option o (filter_map (slice_get xs) (range_with_len (at + 1) n))) (slice_get-get_or xs at 0 (omega arith))
@@ -32,7 +33,7 @@ codes_from xs at (suc n) h =
     ∙ ap (take (suc n)) (sym (drop_more xs at 0 (omega arith)))
 
 -- what a list gives from its last item to its first
-pub filter_map_reverse : {X Y : Type 0} (f : X → Option Y) (xs : List X) → filter_map f (reverse xs) ≡ reverse (filter_map f xs)
+filter_map_reverse : {X Y : Type 0} (f : X → Option Y) (xs : List X) → filter_map f (reverse xs) ≡ reverse (filter_map f xs)
 filter_map_reverse f [] = refl
 filter_map_reverse {Y = Y} f (x ∷ xs) =
     ap (filter_map f) (reverse-cons x xs) ∙ filter_map-append f (reverse xs) (x ∷ []) ∙ ap (λ l. l ++ filter_map f (x ∷ [])) (filter_map_reverse f xs) ∙ last (f x)
@@ -79,22 +80,16 @@ yields_rev_range {s} a n e =
         (λ u x t p. last (rev_source u).start (rev_source u).end (rev_source t).start (rev_source t).end x p.0 p.1.0 p.1.1 p.1.2) s
 
 -- the order tells whether a list is at most another
-up_to_le : (xs ys : List ℕ) → up_to xs ys ≡ is_le (slice_cmp nat_cmp xs ys)
-up_to_le [] [] = refl
-up_to_le [] (y ∷ ys) = refl
-up_to_le (x ∷ xs) [] = refl
-up_to_le (x ∷ xs) (y ∷ ys) = let rest = up_to_le xs ys in grind (arith, nat_tests)
+up_to_le : (xs ys : List ℕ) → is_le (slice_cmp nat_cmp xs ys) ≡ up_to xs ys
+up_to_le xs ys = same_from_slice_cmp nat_cmp is_le up_to refl (λ _ _. refl) (λ _ _. refl) (λ x y xs ys o h. grind (arith, nat_tests)) xs ys _ refl
 
 -- and whether it is at least another
-up_to_ge : (xs ys : List ℕ) → up_to ys xs ≡ is_ge (slice_cmp nat_cmp xs ys)
-up_to_ge [] [] = refl
-up_to_ge [] (y ∷ ys) = refl
-up_to_ge (x ∷ xs) [] = refl
-up_to_ge (x ∷ xs) (y ∷ ys) = let rest = up_to_ge xs ys in grind (arith, nat_tests)
+up_to_ge : (xs ys : List ℕ) → is_ge (slice_cmp nat_cmp xs ys) ≡ up_to ys xs
+up_to_ge xs ys = same_from_slice_cmp nat_cmp is_ge (λ xs ys. up_to ys xs) refl (λ _ _. refl) (λ _ _. refl) (λ x y xs ys o h. grind (arith, nat_tests)) xs ys _ refl
 
 -- two comparisons tell whether a list lies between two others
-pub between_is : (d : Direction) (low high xs : List ℕ)
-    → between d low high xs ≡ (is_ge (slice_cmp nat_cmp (compared d xs) (compared d low)) && is_le (slice_cmp nat_cmp (compared d xs) (compared d high)))
+between_is : (d : Direction) (low high xs : List ℕ)
+    → (is_ge (slice_cmp nat_cmp (compared d xs) (compared d low)) && is_le (slice_cmp nat_cmp (compared d xs) (compared d high))) ≡ between d low high xs
 between_is d low high xs = ap₂ ◌&&◌ (up_to_ge (compared d xs) (compared d low)) (up_to_le (compared d xs) (compared d high))
 
 -- so they tell whether a range, or what it leaves out, matches the codes at an offset, as many as its runs have
@@ -108,7 +103,7 @@ module _ (d : Direction) (inside : Bool) (low high xs : List ℕ) (at : ℕ) (fi
   range_is b is =
       let long : length ys ≡ length low = length_stretch xs at (at + length low) fits ∙ omega arith in
       let same = eq-eqb (length ys) (length low) long in
-      ap (λ t. beq t inside) (is ∙ sym (between_is d low high ys)) ∙ sym (matched inside same)
+      ap (λ t. beq t inside) (is ∙ between_is d low high ys) ∙ sym (matched inside same)
     where
       is_true : (b : Bool) → b ≡ beq b true
       is_true true = refl

@@ -1,11 +1,9 @@
 // Compiles a pattern: its fragments, their anchors, and the numbers of their search.
-ghost use Rattle.std.specs.Prelude.{◌≡◌, ℕ, ◌+◌, ◌-◌, ◌<◌, ◌≤◌, List, length, take, drop, if◌then◌else◌, IfOk};
+ghost use Rattle.std.specs.Prelude.{◌≡◌, ◌+◌, ◌-◌, ◌≤◌, length, take, drop, if◌then◌else◌, IfOk};
 ghost use Rattle.engine.specs.Compiled.{Holds, Hold};
-ghost use Rattle.engine.specs.Compiling.{part_codes, part_items, replaces, Anchors, Shifts, Cuts};
+ghost use Rattle.engine.specs.Compiling.{part_codes, replaces, AnchorsParts, CutsParts, Shifts};
 ghost use Rattle.engine.specs.Reading.{held};
 ghost use Rattle.engine.specs.Parts.{items_in, HasParts};
-ghost use Rattle.engine.specs.Stored.{items as items_of};
-ghost use Rattle.engine.specs.declared.run.Run.{Run as StoredRun};
 ghost use Rattle.kinds.specs.Fragments.{sum_least, fragments as fragments_from};
 
 use crate::fragment::{Fragment, INDICES};
@@ -65,12 +63,13 @@ fn better(reference: Reference, old: Literals, new: Literals) -> Literals
 // The anchor of a fragment's parts: its best run of literals, or an empty one behind them where there is no literal.
 fn anchor(parts: &[PlacedPart], reference: Reference) -> Literals
     ensures inside { result.start + result.len ≤ length parts.now }
-    ensures anchored { (codes : List ℕ) (runs : List StoredRun) → Anchors reference (part_items codes runs parts.now) result.start result.len }
+    ensures anchored { AnchorsParts reference parts.now result.start result.len }
 {
     let mut best = Literals {
         start: parts.len(),
         len: 0,
     };
+    // `split` would give the runs of literals without their places.
     let mut start = 0;
     for (i, placed) in parts.iter().enumerate() {
         if !matches!(placed.part, Part::Literal(_)) {
@@ -94,7 +93,7 @@ struct Cut {
 // Cuts the first fragment off the parts that it begins: behind its body, and at the thing behind the first row of gaps
 // that has one without upper end.
 fn cut_first(parts: &[PlacedPart]) -> Result<Cut, AllocError>
-    ensures { IfOk result (λ c. (codes : List ℕ) (runs : List StoredRun) → Cuts (items_of codes runs parts.now) c.end c.next) }
+    ensures { IfOk result (λ c. CutsParts parts.now c.end c.next) }
 {
     let mut end = 0;
     let mut endless = false;
@@ -185,6 +184,7 @@ pub fn fragments_of(
     let mut fragments = Vec::new(heap);
     let mut first = 0;
     let mut gap = u64::from(lo);
+    // From one cut to the next: how many parts that passes is known only when it is made.
     loop {
         let cut = cut_first(&parts[first..])?;
         let fragment = pattern.fragment_at(heap, reference, first, first + cut.end, gap)?;

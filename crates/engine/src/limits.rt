@@ -186,15 +186,17 @@ impl Tally {
     }
 }
 
-// What is kept of all items, the last fragment ended.
-fn tally_of(pattern: &Pattern) -> Tally
-    ensures { result ≡ closed (tallied initial (held pattern.now)) }
-{
-    let mut tally = Tally::INITIAL;
-    for part in pattern.parts.as_slice() {
-        tally = tally.with_item(pattern, *part);
+impl Pattern {
+    // What is kept of all items, the last fragment ended.
+    fn tally(&self) -> Tally
+        ensures { result ≡ closed (tallied initial (held self.now)) }
+    {
+        let mut tally = Tally::INITIAL;
+        for part in &self.parts {
+            tally = tally.with_item(self, *part);
+        }
+        tally.close()
     }
-    tally.close()
 }
 
 // Why and where a pattern of the grammar is refused: at the smallest place beyond a limit, else at the first fragment
@@ -202,7 +204,7 @@ fn tally_of(pattern: &Pattern) -> Tally
 pub fn refusal(pattern: &Pattern) -> Option<(Cause, usize)>
     ensures { result ≡ refusal (held pattern.now) }
 {
-    let tally = tally_of(pattern);
+    let tally = pattern.tally();
     let bare = tally.bare.map(|place| (Cause::NoLiteral, place));
     tally.limit.map(|place| (Cause::Limit, place)).or(bare)
 }
@@ -211,5 +213,5 @@ pub fn refusal(pattern: &Pattern) -> Option<(Cause, usize)>
 pub fn fragment_count(pattern: &Pattern) -> usize
     ensures { result ≡ length (fragments 0 (held pattern.now)) }
 {
-    tally_of(pattern).ended
+    pattern.tally().ended
 }

@@ -4,4 +4,4 @@ use Rattle.engine.proofs.Tallies.{tally_answers}
 use Rattle.engine.proofs.limits.refusal.Goals as goal
 
 pub returns : goal.returns
-returns c = let said = tally_answers c.tally_of-tally.result (held c.args.pattern.now) c.tally_of-tally.ensures in search rules
+returns c = let said = tally_answers c.tally-tally.result (held c.args.pattern.now) c.tally-tally.ensures in search rules

@@ -1,6 +1,6 @@
-use Rattle.std.proofs.Common.{◌≡◌, ◌-◌, true, take, drop, vec_items, sym, ap, subst}
+use Rattle.std.proofs.Common.{◌-◌, take, drop, vec_items, sym, ap, subst}
 use Rattle.engine.specs.Compiling.{Shifts}
-use Rattle.engine.specs.Stored.{all_parts_within}
+use Rattle.engine.specs.Parts.{HasParts}
 use Rattle.engine.proofs.Assembling.{assembled}
 use Rattle.engine.proofs.Lengths.{parts_take_within, parts_drop_within}
 use Rattle.engine.proofs.pattern.Pattern.fragment_at.Goals as goal
@@ -12,7 +12,7 @@ lead-requires c =
     let first = c.args.first in
     let n = c.args.end - first in
     let slice = c.deref.result.now in
-    let within = subst (λ ps. all_parts_within codes runs ps ≡ true) (sym c.deref.ensures.value) c.args.self.now.parts_within in
+    let within = subst (HasParts c.args.self.now) (sym c.deref.ensures.value) c.args.self.now.parts_within in
     parts_take_within codes runs c.anchor-start.result.start (take n (drop first slice)) (parts_take_within codes runs n (drop first slice) (parts_drop_within codes runs first slice within))
 
 pub returns : goal.returns

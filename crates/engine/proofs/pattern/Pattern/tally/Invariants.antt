@@ -2,10 +2,10 @@ use Rattle.std.proofs.Common.{◌≡◌, ◌≤◌, drop, vec_items}
 use Rattle.engine.specs.Reading.{held}
 use Rattle.engine.specs.Stored.{items}
 use Rattle.engine.specs.Tallies.{initial, tallied}
-use Rattle.engine.proofs.limits.tally_of.Given as goal
+use Rattle.engine.proofs.pattern.Pattern.tally.Given as goal
 
 -- the parts that are left give what all give
 abbrev pub invariant-loop-part : goal.invariant-loop-part
 invariant-loop-part l =
-    (tallied l.tally (items (vec_items l.pattern.codes) (vec_items l.pattern.runs) (drop l.part-index l.part-items)) ≡ tallied initial (held l.pattern))
+    (tallied l.tally (items (vec_items l.self.codes) (vec_items l.self.runs) (drop l.part-index l.part-items)) ≡ tallied initial (held l.self))
     × (l.tally.ended ≤ l.part-index)

@@ -1,11 +1,11 @@
 -- What the reader of texts does with a gap in braces, by the numbers and characters that stand there.
 use Rattle.std.proofs.Common.{◌≡◌, ℕ, ◌+◌, ◌<◌, true, false, eqb, ltb, List, length, get_or, drop, Some, None, Option, refl, ap, ◌∙◌, ⊎_elim, arith}
-use Rattle.std.proofs.lemmas.Bool.{eqb-true, ltb-true, lt-ltb, ne_eqb, and_parts, and_cases, and_left, and_right, and_from, both_ways, cond-false, cond_both}
+use Rattle.std.proofs.lemmas.Bool.{eqb-true, ltb-true, lt-ltb, ne_eqb, and_parts, and_cases, and_left, and_right, and_from, both_ways}
 use Rattle.kinds.specs.Alphabet.{Alphabet, within}
 use Rattle.kinds.specs.Patterns.{Item, gap}
 use Rattle.kinds.specs.Reader.{digits, endless, Numeral, stuck, goes_on, complete, closed, behind_digits, next, follow}
 use Rattle.kinds.specs.Reader.{least as lower, most as upper}
-use Rattle.engine.specs.Scanning.{standing, NoDigit, LongestNumber}
+use Rattle.engine.specs.Scanning.{standing, LongestNumber}
 use Rattle.engine.specs.Tokens.{continued, Completes, Stops}
 use Rattle.engine.proofs.Machine.{only_true, only_false, next_behind_digits, next_closed, step_by, stops_here, number_run}
 
@@ -24,26 +24,11 @@ module _ (t : List ℕ) (place c : ℕ) where
       (and_cases (ltb place (length t)) (eqb (get_or t place 0) c) e)
 
 module _ {E : Type 0} (a : Alphabet E) where
-  -- no digit was read, and the character is none
-  no_digit_yet : (n : Numeral) (c : ℕ) → within 48 57 c ≡ false → behind_digits a n 0 0 c ≡ stuck → next a (digits n 0 0) c ≡ stuck
-  no_digit_yet n c none other = cond-false _ _ _ none ∙ cond_both (eqb c 125) stuck (behind_digits a n 0 0 c) (λ x. x ≡ stuck) (λ _. refl) (λ _. other)
-
   -- one digit or more was read, and the character cannot stand behind it
   digits_stop : (n : Numeral) (k v c : ℕ) → (k < 4 → within 48 57 c ≡ false) → eqb c 125 ≡ false → behind_digits a n k v c ≡ stuck → next a (digits n k v) c ≡ stuck
   digits_stop n k v c room brace other = next_behind_digits a n k v c room brace ∙ other
 
   module _ (t : List ℕ) (place : ℕ) where
-    -- a place where a number has to begin and no digit stands
-    pub no_least : NoDigit t place → Stops a t (digits lower 0 0) place place
-    no_least none =
-        stops_here a t (digits lower 0 0) place refl
-        (λ h. no_digit_yet lower (get_or t place 0) (none h) (only_false _ _ (and_right (eqb (get_or t place 0) 45) (ltb 0 0) refl)))
-
-    pub no_most : (m : ℕ) → NoDigit t place → standing t place 42 ≡ false → Stops a t (digits (upper m) 0 0) place place
-    no_most m none star =
-        stops_here a t (digits (upper m) 0 0) place refl
-        (λ h. no_digit_yet (upper m) (get_or t place 0) (none h) (only_false _ _ (and_left _ (eqb 0 0) (stands_false t place 42 star h))))
-
     -- a star in the place of the greatest length
     pub star_steps : (m from : ℕ) → standing t place 42 ≡ true → follow a (digits (upper m) 0 0) from place (drop place t) ≡ follow a (endless m) from (place + 1) (drop (place + 1) t)
     star_steps m from star =

@@ -11,7 +11,7 @@ use Rattle.kinds.proofs.Texts.{some_below_decides}
 use Rattle.kinds.specs.Alphabet.{within}
 use Rattle.kinds.specs.Grammar.{Digits, followed_by}
 use Rattle.kinds.specs.Reader.{some_below}
-use Rattle.engine.specs.Scanning.{NoDigit, LongestNumber}
+use Rattle.engine.specs.Scanning.{LongestNumber}
 
 -- an item that is there has what holds of some item and of every item
 item_of_both : {A : Type 0} (o : Option A) {P Q : A → Type 0} → IsSomeAnd o P → IfSome o Q → (x : A) × P x × Q x
@@ -107,13 +107,6 @@ module _ (t : List ℕ) (place : ℕ) (fits : place ≤ length t) (count : ℕ) 
 
   pub standing_few : length standing_digits ≤ 4
   standing_few = omega (arith, standing_len, found.few)
-
-  -- no digit stands there
-  pub none_stands : length standing_digits ≡ 0 → NoDigit t place
-  none_stands none h =
-      let zero : count ≡ 0 = sym standing_len ∙ none in
-      let here : place + count ≡ place = omega arith in
-      ap (λ n. within 48 57 (get_or t n 0)) (sym here) ∙ ap (within 48 57) (sym (get_or-drop place t count 0)) ∙ found.longest (omega arith) (omega (arith, length-drop place t))
 
   -- a number stands there
   pub number_stands : (value : ℕ) → 0 < length standing_digits → value ≡ followed_by 0 standing_digits → LongestNumber t place (value, place + length standing_digits)

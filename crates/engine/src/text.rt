@@ -73,10 +73,7 @@ pub fn compiled<K: Kind>(
 fn numbers_of(fragments: &[Fragment], number: usize, index: u8) -> Option<(u64, u64, usize, u32)>
     ensures { (reference : Reference) (items : List Placed) (gs : List spec.Fragment) → Hold reference items fragments.now gs → result ≡ shown reference gs number index }
 {
-    if number == 0 {
-        return None;
-    }
-    let fragment = fragments.get(number - 1)?;
+    let fragment = fragments.get(number.checked_sub(1)?)?;
     Some((
         fragment.gap,
         fragment.lead,

@@ -5,14 +5,8 @@ use Rattle.kinds.specs.Patterns.{gap}
 use Rattle.kinds.specs.Reader.{digits}
 use Rattle.kinds.specs.Reader.{least as lower, most as upper}
 use Rattle.engine.specs.Tokens.{Completes, Stops}
-use Rattle.engine.proofs.Gaps.{no_least, least_stops, one_number, dash_completes, dash_stops}
+use Rattle.engine.proofs.Gaps.{least_stops, one_number, dash_completes, dash_stops}
 use Rattle.engine.proofs.cursor.Cursor.gap.Goals as goal
-
-pub returns-in_err-least : goal.returns-in_err-least
-returns-in_err-least g c =
-    let p = err_from_is_err_and c.from_residual.result c.from_residual.ensures.1 in
-    let h = c.in_err-least.ensures in
-    rw (p.1, p.2) (subst (Stops g.K.Kind.alphabet c.args.self.text.now (digits lower 0 0) c.args.self.place) (sym h.1) (no_least g.K.Kind.alphabet c.args.self.text.now c.args.self.place h.0))
 
 pub returns-in-Some : goal.returns-in-Some
 returns-in-Some g c =

@@ -1,11 +1,8 @@
 use Rattle.std.proofs.Common.{rules, refl, arith}
 use Rattle.std.proofs.lemmas.List.{take_all}
 use borrow.Author.Tests.{tests}
-use Rattle.engine.proofs.Scans.{standing_are_digits, standing_few, number_stands, none_stands, value_more}
+use Rattle.engine.proofs.Scans.{standing_are_digits, standing_few, number_stands, value_more}
 use Rattle.engine.proofs.cursor.Cursor.number.Goals as goal
-
-pub returns-then-is_empty : goal.returns-then-is_empty
-returns-then-is_empty c = (none_stands c.args.self.text.now c.args.self.place c.args.self.inside _ c.digit_count.ensures (search (rules, tests)), c.stop.ensures)
 
 pub loop-digit-init : goal.loop-digit-init
 loop-digit-init c = record {

@@ -5,7 +5,7 @@ use Rattle.kinds.specs.Reader.{digits}
 use Rattle.kinds.specs.Reader.{most as upper}
 use Rattle.engine.specs.Tokens.{Completes, Stops}
 use Rattle.engine.specs.declared.cursor.Cursor.{Cursor}
-use Rattle.engine.proofs.Gaps.{UpperEnd, no_most, star_end, number_end}
+use Rattle.engine.proofs.Gaps.{UpperEnd, star_end, number_end}
 use Rattle.engine.proofs.cursor.Cursor.upper_end.Given as given
 use Rattle.engine.proofs.cursor.Cursor.upper_end.Goals as goal
 use Rattle.engine.proofs.cursor.Cursor.upper_end.Goals.{Joined-past, in-Some, in_default+in_ok-most}
@@ -27,12 +27,6 @@ found g c =
       | in_default+in_ok-most w ↦
           subst Found (sym w.most-is) (w.in_ok-most.ensures.0, number_end a t c.args.least at (w.in_ok-most.most, w.in_ok-most.end.place) w.in_ok-most.ensures.1)
     ]
-
-pub returns-in_err-most : goal.returns-in_err-most
-returns-in_err-most g c =
-    let p = err_from_is_err_and c.from_residual.result c.from_residual.ensures.1 in
-    let h = c.in_err-most.ensures in
-    rw (p.1, p.2) (subst (Stops g.K.Kind.alphabet c.args.self.text.now (digits (upper c.args.least) 0 0) c.args.self.place) (sym h.1) (no_most g.K.Kind.alphabet c.args.self.text.now c.args.self.place c.args.least h.0 c.in_default.ensures))
 
 pub returns-in_err-later : goal.returns-in_err-later
 returns-in_err-later g c =

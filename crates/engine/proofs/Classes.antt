@@ -18,6 +18,7 @@ use Rattle.engine.proofs.Gaps.{stands_true}
 use Rattle.kinds.proofs.Texts.{pair_leads}
 use Rattle.engine.proofs.Machine.{only_true, step_by}
 
+-- what is expected in a state is one thing
 same_expected : {e f : Expects} → Some e ≡ Some f → e ≡ f
 same_expected h = cc
 
@@ -40,6 +41,7 @@ module _ {E : Type 0} (a : Alphabet E) where
   at_expected : (s : State) (f e : Expects) (c : ℕ) → Some f ≡ Some e → next a s c ≡ by_class s c (class_of f c) → next a s c ≡ by_class s c (class_of e c)
   at_expected s f e c h = subst (λ x. next a s c ≡ by_class s c (class_of x c)) (same_expected h)
 
+  -- a character does what its class says, where the class is taken by what the state expects
   pub next_by_class : (s : State) (e : Expects) (c : ℕ) → expected s ≡ Some e → next a s c ≡ by_class s c (class_of e c)
   next_by_class (between start) e c h = at_expected (between start) expects.Thing e c h (sym (simp class_cond))
   next_by_class (between after_thing) e c h = at_expected (between after_thing) expects.Item e c h (sym (simp class_cond))
@@ -70,10 +72,11 @@ module _ {E : Type 0} (a : Alphabet E) where
     class_steps : (k : Class) → class_of e (get_or t place 0) ≡ k → (s : State) (from : ℕ) → expected s ≡ Some e → follow a s from place (drop place t) ≡ continued a (by_class s (get_or t place 0) k) from place (place + 1) (drop (place + 1) t)
     class_steps k is s from h = step_by a t s (by_class s (get_or t place 0) k) from place inside (next_by_class s e (get_or t place 0) h ∙ ap (by_class s (get_or t place 0)) is)
 
-    -- a punctuation, a star, and a character that may not stand
+    -- a punctuation
     pub mark_reads : (m : Punctuation) → class_of e (get_or t place 0) ≡ Mark m → ReadsToken a t e place (token.Mark m) (place + 1)
     mark_reads m is = record { forward = omega arith; inside = omega arith; reads = class_steps (Mark m) is }
 
+    -- a star
     pub star_reads : (g : Gap) → g.least ≡ 0 → g.most ≡ None → class_of e (get_or t place 0) ≡ Star → ReadsToken a t e place (token.Gap g) (place + 1)
     star_reads g zero_least none is = record {
       forward = omega arith;
@@ -81,7 +84,7 @@ module _ {E : Type 0} (a : Alphabet E) where
       reads = λ s from h. class_steps Star is s from h ∙ ap (λ i. continued a (complete i) from place (place + 1) (drop (place + 1) t)) (λ i. gap (sym zero_least i) (sym none i));
     }
 
-    -- two question marks, or one
+    -- two question marks
     pub question_reads : class_of e (get_or t place 0) ≡ Question → standing t (place + 1) 63 ≡ true → ReadsToken a t e place token.Any (place + 2)
     question_reads is again =
         let here = stands_true t (place + 1) 63 again in

@@ -10,12 +10,13 @@ use Rattle.engine.specs.Tokens.{continued, Completes, Stops}
 use Rattle.engine.proofs.Machine.{only_true, only_false, next_behind_digits, next_closed, step_by, stops_here, number_run}
 
 module _ (t : List ℕ) (place c : ℕ) where
-  -- where a character stands, and where another does
+  -- where it does, it is the text's there
   pub stands_true : standing t place c ≡ true → (place < length t) × (get_or t place 0 ≡ c)
   stands_true e =
       let parts = and_parts (ltb place (length t)) (eqb (get_or t place 0) c) e in
       (ltb-true place (length t) parts.0, eqb-true (get_or t place 0) c parts.1)
 
+  -- where it does not, the text has another there, if it goes on
   pub stands_false : standing t place c ≡ false → place < length t → eqb (get_or t place 0) c ≡ false
   stands_false e h =
       ⊎_elim
@@ -50,9 +51,11 @@ module _ {E : Type 0} (a : Alphabet E) where
           ∙ stops_here a t (digits n found.0 r.0) r.1 refl
           (λ h. digits_stop n found.0 r.0 (get_or t r.1 0) (λ room. found.7 room h) (stands_false t r.1 125 brace h) (other h)) from
 
+      -- the same of the least length
       pub least_stops : standing t r.1 45 ≡ false → standing t r.1 125 ≡ false → Stops a t (digits lower 0 0) place r.1
       least_stops dash brace = number_stops lower brace (λ h. only_false _ _ (and_left _ (ltb 0 found.0) (stands_false t r.1 45 dash h)))
 
+      -- and of the greatest
       pub most_stops : (m : ℕ) → standing t r.1 125 ≡ false → Stops a t (digits (upper m) 0 0) place r.1
       most_stops m brace = number_stops (upper m) brace (λ h. only_false _ _ (and_right (eqb (get_or t r.1 0) 42) _ (ne_eqb found.0 0 (λ e. omega (arith, found.2)))))
 
@@ -65,12 +68,13 @@ module _ {E : Type 0} (a : Alphabet E) where
           (ap (next a (digits lower found.0 r.0)) here.1 ∙ only_true _ _ (and_from (eqb 45 45) _ refl (lt-ltb 0 found.0 found.2)))
 
   module _ (t : List ℕ) (place : ℕ) where
-    -- a gap without upper end: its closing brace, or not
+    -- a gap without upper end: its closing brace
     pub endless_closed : (m from : ℕ) → standing t place 125 ≡ true → follow a (endless m) from place (drop place t) ≡ continued a (complete (gap m None)) from place (place + 1) (drop (place + 1) t)
     endless_closed m from brace =
         let here = stands_true t place 125 brace in
         step_by a t (endless m) (complete (gap m None)) from place here.0 (ap (next a (endless m)) here.1)
 
+    -- no closing brace stands there
     pub endless_stops : (m : ℕ) → standing t place 125 ≡ false → Stops a t (endless m) place place
     endless_stops m brace = stops_here a t (endless m) place refl (λ h. only_false _ _ (stands_false t place 125 brace h))
 
@@ -80,6 +84,7 @@ module _ {E : Type 0} (a : Alphabet E) where
       pub brace : standing t x.1 125 ≡ true → Completes a t (digits (upper m) 0 0) place (gap m x.0) (x.1 + 1)
       pub none : standing t x.1 125 ≡ false → Stops a t (digits (upper m) 0 0) place x.1
 
+    -- a star
     pub star_end : standing t place 42 ≡ true → UpperEnd (None, place + 1)
     star_end star = record {
       brace = λ brace. record {
@@ -90,6 +95,7 @@ module _ {E : Type 0} (a : Alphabet E) where
       none = λ brace from. star_steps t place m from star ∙ endless_stops t (place + 1) m brace from;
     }
 
+    -- a number
     pub number_end : (r : ℕ × ℕ) → LongestNumber t place r → UpperEnd (Some r.0, r.1)
     number_end r found = record {
       brace = λ brace. record {
@@ -117,5 +123,6 @@ module _ {E : Type 0} (a : Alphabet E) where
       reads = λ from. dash_steps t place r found from dash ∙ h.reads from;
     }
 
+    -- and what cannot be read there cannot be read as a part of it
     pub dash_stops : (at : ℕ) → standing t r.1 45 ≡ true → Stops a t (digits (upper r.0) 0 0) (r.1 + 1) at → Stops a t (digits lower 0 0) place at
     dash_stops at dash h from = dash_steps t place r found from dash ∙ h from

@@ -9,10 +9,11 @@ use Rattle.kinds.specs.Reader.{least as lower, most as upper}
 use Rattle.engine.specs.Scanning.{LongestNumber}
 use Rattle.engine.specs.Tokens.{continued, Stops}
 
--- a step under a test that passes, and one under a test that fails
+-- a step under a test that passes
 pub only_true : (b : Bool) (n : Next) → b ≡ true → only_if b n ≡ n
 only_true b n e = ap (λ x. only_if x n) e
 
+-- a step under a test that fails
 pub only_false : (b : Bool) (n : Next) → b ≡ false → only_if b n ≡ stuck
 only_false b n e = ap (λ x. only_if x n) e
 
@@ -69,6 +70,7 @@ module _ {E : Type 0} (a : Alphabet E) where
     pub step : (s : State) (from place : ℕ) → place < length t → follow a s from place (drop place t) ≡ continued a (next a s (get_or t place 0)) from place (place + 1) (drop (place + 1) t)
     step s from place h = ap (follow a s from place) (drop_more t place 0 h)
 
+    -- the same, where what the character does is known
     pub step_by : (s : State) (n : Next) (from place : ℕ) → place < length t → next a s (get_or t place 0) ≡ n → follow a s from place (drop place t) ≡ continued a n from place (place + 1) (drop (place + 1) t)
     step_by s n from place h e = step s from place h ∙ ap (λ x. continued a x from place (place + 1) (drop (place + 1) t)) e
 

@@ -25,6 +25,7 @@ item_known (Some y) x P is every = subst P (cc) every
 
 -- what `any` answers over the numbers below n, where the closure computes a test
 module _ {S F : Type 0} {steps : S → Option ℕ → S → Type 0} (g : Mut F (ℕ × Unit {0}) Bool) (f : F) (test : ℕ → Bool) (asks : (x : ℕ) (b : Bool) (q : F) → Called g f (x, tt) b q → (q ≡ f) × (b ≡ test x)) (p : Run steps) (n : ℕ) (up : ItemsCountUp p 0 n) where
+  -- it is true exactly when the test passes at one of them
   any_decides : (r : Bool) → MatchBool r (AnyItemGives p g f true) (IsTrue p.whole × AllItemsGive p g f false) → Decides r ((k : ℕ) × (k < n) × (test k ≡ true))
   any_decides true h =
       let some = h (λ a b q call. (asks a.0 b q call).0) in
@@ -37,6 +38,7 @@ module _ {S F : Type 0} {steps : S → Option ℕ → S → Type 0} (g : Mut F (
         (asks found.0 false f call).1 ∙ found.2),
   )
 
+  -- so it is what the definition's search answers
   pub any_below : (r : Bool) → MatchBool r (AnyItemGives p g f true) (IsTrue p.whole × AllItemsGive p g f false) → r ≡ some_below test n
   any_below r h = same_from_decides r (some_below test n) (any_decides r h) (some_below_decides test n)
 
@@ -93,18 +95,23 @@ module _ (t : List ℕ) (place : ℕ) (fits : place ≤ length t) (count : ℕ) 
   abbrev pub standing_digits : List ℕ
   standing_digits = take count (take (length t - place) (drop place t))
 
+  -- the slice from the place on is the rest of the text
   rest_is : take (length t - place) (drop place t) ≡ drop place t
   rest_is = take_all (length t - place) (drop place t) (omega (arith, length-drop place t))
 
+  -- they are as many as the rest begins with
   found : LeadingDigits 4 (drop place t) count
   found = subst (LeadingDigits 4 (drop place t)) (sym (is ∙ ap (λ l. prefix_len (within 48 57) (take 4 l)) rest_is)) (leading_digits 4 (drop place t))
 
+  -- each is a digit
   pub standing_are_digits : Digits standing_digits
   standing_are_digits = subst (λ l. Digits (take count l)) (sym rest_is) found.digits
 
+  -- the slice has their number
   standing_len : length standing_digits ≡ count
   standing_len = ap (λ l. length (take count l)) rest_is ∙ length-take-le count (drop place t) found.inside
 
+  -- they are four at most
   pub standing_few : length standing_digits ≤ 4
   standing_few = omega (arith, standing_len, found.few)
 

@@ -34,9 +34,11 @@ module _ (r : Reference) (items : List Placed) where
   at_number gs zero index h = absurd (omega arith)
   at_number gs (suc k) index h = let back : k ≡ suc k - 1 = omega arith in ap (λ n. option_map (numbers r index) (slice_get gs n)) back
 
+  -- where there is no such compiled fragment, nothing is shown
   pub shown_none : (fs : List Fragment) (gs : List spec.Fragment) (number index : ℕ) → 0 < number → Hold r items fs gs → slice_get fs (number - 1) ≡ None → None ≡ shown r gs number index
   shown_none fs gs number index some h e = sym (at_number gs number index some ∙ ap (option_map (numbers r index)) (hold_none fs gs (number - 1) h e))
 
+  -- the numbers of a compiled fragment are those that are shown
   pub shown_some : (fs : List Fragment) (gs : List spec.Fragment) (number index : ℕ) (f : Fragment) → 0 < number → index < 256 → Hold r items fs gs → slice_get fs (number - 1) ≡ Some f → Some (f.gap, f.lead, vec_len f.codes, get_or f.shifts index 0) ≡ shown r gs number index
   shown_some fs gs number index f some byte h e =
       let found = hold_at fs gs (number - 1) f h e in

@@ -1,5 +1,5 @@
 -- What the parts of the lexer find at a place of a text.
-use Rattle.std.specs.Prelude.{◌≡◌, ℕ, ◌+◌, ◌<◌, ◌≤◌, Bool, false, ◌&&◌, List, length, take, drop, Some, None, ◌==◌, nat_lt, slice_index}
+use Rattle.std.specs.Prelude.{◌≡◌, ℕ, ◌+◌, ◌<◌, ◌≤◌, Bool, true, false, ◌&&◌, List, length, take, drop, Some, None, ◌==◌, nat_lt, slice_index}
 use Rattle.kinds.specs.Alphabet.{Alphabet, within}
 use Rattle.kinds.specs.Grammar.{Digits, followed_by}
 use Rattle.engine.specs.declared.cursor.Cursor.{Cursor}
@@ -11,6 +11,10 @@ standing t place c = nat_lt place (length t) && (slice_index t place == c)
 -- a value with the cursor behind it: the text is the same, and the value is read up to the cursor's place
 abbrev pub Behind : {A : Type 0} → Cursor → (A × ℕ → Type 0) → A × Cursor → Type 0
 Behind before Reads r = (r.1.text.now ≡ before.text.now) × Reads (r.0, r.1.place)
+
+-- a character stands at a cursor, and another cursor is behind it
+abbrev pub Passes : Cursor → ℕ → Cursor → Type 0
+Passes before c after = (standing before.text.now before.place c ≡ true) × (after.text.now ≡ before.text.now) × (after.place ≡ before.place + 1)
 
 module _ {E : Type 0} (a : Alphabet E) (first : ℕ) (t : List ℕ) (place : ℕ) where
   -- a character stands there that is the second of a pair, behind its first: the code of the element that the pair names, and

@@ -1,7 +1,7 @@
 // Hands out the tokens of a pattern text.
-ghost use Rattle.std.specs.Prelude.{◌≡◌, ◌+◌, ◌<◌, ◌≤◌, false, true, length, take, MatchOption, MatchResult, slice_index};
+ghost use Rattle.std.specs.Prelude.{◌≡◌, ◌<◌, false, length, take, MatchOption, MatchResult, slice_index};
 ghost use Rattle.std.specs.List.{prefix_len};
-ghost use Rattle.engine.specs.Scanning.{standing, Behind, GoesOn, NoPair, NoDigit, LongestNumber};
+ghost use Rattle.engine.specs.Scanning.{standing, Behind, Passes, GoesOn, NoPair, NoDigit, LongestNumber};
 ghost use Rattle.engine.specs.Tokens.{class_of, ReadsGap, Stops, ReadsPart, StopsExpecting, Lexed};
 ghost use Rattle.kinds.specs.Alphabet.{within};
 ghost use Rattle.kinds.specs.Grammar.{Digits, followed_by};
@@ -106,27 +106,26 @@ impl<'t> Cursor<'t> {
                 Some(later) => (Token::Any, later),
                 None => return Err(behind.stop()),
             },
-            Class::Star => {
-                let (least, most) = (0, None);
-                (Token::Gap(Gap { least, most }), behind)
-            }
+            Class::Star => (
+                Token::Gap(Gap {
+                    least: 0,
+                    most: None,
+                }),
+                behind,
+            ),
             Class::Brace => {
                 let (gap, later) = behind.gap::<K>()?;
                 (Token::Gap(gap), later)
             }
-            Class::Pair => {
-                let Some((code, later)) = behind.second::<K>(first) else {
-                    let stop = if begins_pair::<K>(first) {
-                        behind
-                    } else {
-                        self
-                    };
-                    return Err(stop.stop());
-                };
-                let place = self.place;
-                let pair = &self.text[place..later.place];
-                (Token::Literal { pair, place, code }, later)
-            }
+            Class::Pair => match behind.second::<K>(first) {
+                Some((code, later)) => {
+                    let place = self.place;
+                    let pair = &self.text[place..later.place];
+                    (Token::Literal { pair, place, code }, later)
+                }
+                None if begins_pair::<K>(first) => return Err(behind.stop()),
+                None => return Err(self.stop()),
+            },
             Class::Misplaced => return Err(self.stop()),
         };
         Ok(Some(read))
@@ -189,7 +188,7 @@ impl<'t> Cursor<'t> {
 
     // The cursor behind a character, if that stands next.
     fn past(self, c: u8) -> Option<Cursor<'t>>
-        ensures { MatchOption result (standing self.entry.text.now self.entry.place c ≡ false) (λ later. (standing self.entry.text.now self.entry.place c ≡ true) × (later.text.now ≡ self.entry.text.now) × (later.place ≡ self.entry.place + 1)) }
+        ensures { MatchOption result (standing self.entry.text.now self.entry.place c ≡ false) (Passes self.entry c) }
     {
         let (first, later) = self.split_first()?;
         (first == c).then_some(later)
@@ -197,7 +196,7 @@ impl<'t> Cursor<'t> {
 
     // The cursor behind a character that has to stand next.
     fn require(self, c: u8) -> Result<Cursor<'t>, Stop>
-        ensures { MatchResult result (λ later. (standing self.entry.text.now self.entry.place c ≡ true) × (later.text.now ≡ self.entry.text.now) × (later.place ≡ self.entry.place + 1)) (λ stop. (standing self.entry.text.now self.entry.place c ≡ false) × (stop.place ≡ self.entry.place)) }
+        ensures { MatchResult result (Passes self.entry c) (λ stop. (standing self.entry.text.now self.entry.place c ≡ false) × (stop.place ≡ self.entry.place)) }
     {
         self.past(c).ok_or(self.stop())
     }

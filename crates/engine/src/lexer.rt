@@ -1,5 +1,5 @@
 // Hands out the tokens of a pattern text.
-ghost use Rattle.std.specs.Prelude.{◌≡◌, ◌<◌, false, length, take, MatchOption, MatchResult, slice_index};
+ghost use Rattle.std.specs.Prelude.{◌≡◌, false, length, take, MatchOption, MatchResult};
 ghost use Rattle.std.specs.List.{prefix_len};
 ghost use Rattle.engine.specs.Scanning.{standing, Behind, Passes, GoesOn, NoPair, NoDigit, LongestNumber};
 ghost use Rattle.engine.specs.Tokens.{class_of, ReadsGap, Stops, ReadsPart, StopsExpecting, Lexed};

@@ -3,17 +3,17 @@ use Rattle.std.proofs.Common.{◌≡◌, ℕ, ◌+◌, ◌<◌, ◌≤◌, min, 
 use Rattle.std.proofs.lemmas.Bool.{cases_lt, cond_both, leb-false}
 use Rattle.kinds.specs.Fragments as spec
 use Rattle.kinds.specs.Fragments.{Anchor, anchor, bodies}
-use Rattle.kinds.specs.Grammar.{Placed}
 use Rattle.kinds.specs.Patterns.{AtMost}
 use Rattle.kinds.specs.Search.{first_fit, least_end, stands_at}
-use Rattle.kinds.specs.declared.pattern.Reference.{Reference}
 use Rattle.kinds.specs.Spans.{Anchored, NoLess}
 use Rattle.kinds.proofs.Anchors.{BestBefore, FirstFit, first_fit_exactly, anchor_splits, stands_decides, spans_at_most, best_none, best_on, best_kept, best_more, best_all, best_least}
 use Rattle.kinds.proofs.Searches.{least_end_is}
 use Rattle.engine.specs.Codes.{not_past, ShiftsOf}
-use Rattle.engine.specs.Finding.{smaller_of, Bounds, LeastThrough}
-use Rattle.engine.specs.Searched.{Searched}
+use Rattle.engine.specs.Finding.{smaller_of, Bounds, LeastThrough, Sides}
+use Rattle.engine.specs.Reading.{held}
+use Rattle.engine.specs.Sequences.{Searches}
 use Rattle.engine.specs.declared.fragment.Fragment.{Fragment}
+use Rattle.engine.specs.declared.sequence.Sequence.{Sequence}
 use Rattle.engine.specs.declared.starts.Starts.{Starts}
 use Rattle.engine.proofs.Anchored.{codes_long, sides_of}
 
@@ -63,19 +63,22 @@ next_within codes xs place last (Some p) first =
     cond_both (leb p last) (Some p) None (NextFit codes xs place last) (λ _. first)
     (λ past q l k y. omega (arith, leb-false p last past, first.2 q l y))
 
-module _ (r : Reference) (qs mirror : List Placed) (f : Fragment) (g : spec.Fragment) (s : Searched r qs mirror f g) (starts : Starts) (xs : List ℕ) where
+module _ (sequence : Sequence) (f : Fragment) (g : spec.Fragment) (s : Searches sequence f g) (starts : Starts) (xs : List ℕ) where
   -- the anchor of the fragment's items
   abbrev a : Anchor
-  a = anchor r (bodies g.body)
+  a = anchor sequence.offsets.reference (bodies g.body)
+
+  -- what stands on its sides
+  pub sides : Sides (held sequence.pattern) (held sequence.mirror) f a
+  sides = sides_of sequence.offsets.reference (held sequence.pattern) (held sequence.mirror) f g s
 
   -- the fragment's bounds are in order
-  pub bounds_of : (count : ℕ) → length qs ≡ count → Bounds count f
+  pub bounds_of : (count : ℕ) → length (held sequence.pattern) ≡ count → Bounds count f
   bounds_of count e = record { before = s.holds.ordered.0; behind = s.holds.ordered.1; inside = omega (arith, s.holds.ordered.2) }
 
   -- what stands before the anchor spans less than a row
   before_near : (q e : ℕ) → Anchored a.front a.codes a.back starts.from starts.until xs q e → (start : ℕ) × AtMost starts.until start × (q < start + 1024) × (q ≤ length xs)
   before_near q e x =
-      let sides = sides_of r qs mirror f g s in
       let start = x.before in
       let near = spans_at_most a.front xs start.begins q sides.small.front_bounded start.spans in
       let inside = ((stands_decides a.codes xs q).0 x.stands).0 in
@@ -95,7 +98,7 @@ module _ (r : Reference) (qs mirror : List Placed) (f : Fragment) (g : spec.Frag
   -- where there is no first place, there is no placement
   pub none_begins : length xs ≤ 4294967295 → 4294967295 < starts.from + f.lead → None ≡ least_end (bodies g.body) starts.from starts.until xs
   none_begins few far =
-      best_all a.front a.codes a.back starts.from starts.until xs (bodies g.body) (anchor_splits r (bodies g.body)) (starts.from + f.lead) None
+      best_all a.front a.codes a.back starts.from starts.until xs (bodies g.body) (anchor_splits sequence.offsets.reference (bodies g.body)) (starts.from + f.lead) None
       (λ q l y. omega (arith, ((stands_decides a.codes xs q).0 y).0)) (best_none a.front a.codes a.back starts.from starts.until xs (starts.from + f.lead) (omega (arith, s.holds.leads)))
 
   module _ (codes : List ℕ) (stored : codes ≡ vec_items f.codes) (place last : ℕ) (fit : Option ℕ) (found : ShiftsOf f.shifts codes → fit ≡ not_past last (first_fit codes xs place)) where
@@ -111,7 +114,7 @@ module _ (r : Reference) (qs mirror : List Placed) (f : Fragment) (g : spec.Frag
     pub best_ends : (best : Option ℕ) → fit ≡ None → Best a starts xs place last best → best ≡ least_end (bodies g.body) starts.from starts.until xs
     best_ends best e h =
         let none : NextFit a.codes xs place last None = subst (NextFit a.codes xs place last) e next_place in
-        rw (anchor_splits r (bodies g.body))
+        rw (anchor_splits sequence.offsets.reference (bodies g.body))
         (least_end_is _ starts.from starts.until xs best
         (best_least a.front a.codes a.back starts.from starts.until xs place best h.before
         (λ q end l x. ⊎_elim (λ past. h.beyond q end past x) (λ within. absurd (none q l within x.stands)) (cases_lt last q))))
@@ -120,10 +123,6 @@ module _ (r : Reference) (qs mirror : List Placed) (f : Fragment) (g : spec.Frag
       -- it is the first one
       first : FirstFit a.codes xs place (Some p)
       first = subst (NextFit a.codes xs place last) is next_place
-
-      -- it is not before the place asked for
-      pub next_on : place ≤ p
-      next_on = first.0
 
       -- there is a place behind it
       pub next_before : length xs ≤ 4294967295 → p < 4294967295
@@ -140,6 +139,6 @@ module _ (r : Reference) (qs mirror : List Placed) (f : Fragment) (g : spec.Frag
             beyond = λ q e past x.
                 ⊎_elim
                 (λ far. rw is_new (no_less_smaller best end e (h.beyond q e far x)))
-                (λ no_less. no_less_more new (q + vec_len f.codes) e (omega (arith, x.behind.ordered, codes_long r qs mirror f g s)) no_less)
+                (λ no_less. no_less_more new (q + vec_len f.codes) e (omega (arith, x.behind.ordered, codes_long sequence.offsets.reference (held sequence.pattern) (held sequence.mirror) f g s)) no_less)
                 (narrow q past);
           }

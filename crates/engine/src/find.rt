@@ -92,9 +92,6 @@ pub(crate) fn least_end<R: Reading>(
     let mut last = starts.last_place();
     let mut best = None;
     while let Some(fit) = next_fit_up_to(reading, codes, &fragment.shifts, place, last) {
-        if fit < place {
-            return None;
-        }
         best = smaller(best, end_through(sequence, fragment, reading, fit, starts));
         last = last_useful(last, best, codes.len());
         place = fit.checked_add(1)?;

@@ -1,5 +1,5 @@
 // Looks for the places of a reading where an anchor stands.
-ghost use Rattle.std.specs.Prelude.{◌≡◌, ◌+◌, ◌≤◌, length};
+ghost use Rattle.std.specs.Prelude.{◌≡◌, ◌+◌, ◌≤◌, length, IfSome};
 ghost use Rattle.engine.specs.Codes.{codes_of, not_past, ShiftsOf};
 ghost use Rattle.kinds.specs.Search.{stands_at, first_fit};
 
@@ -28,7 +28,8 @@ pub fn next_fit_up_to<R: Reading>(
     from: u32,
     to: u32,
 ) -> Option<u32>
-    ensures { ShiftsOf shifts.now anchor.now → result ≡ not_past to (first_fit anchor.now (codes_of R.Element.alphabet (R.elements reading.now)) from) }
+    ensures on { IfSome result (λ place. from ≤ place) }
+    ensures first { ShiftsOf shifts.now anchor.now → result ≡ not_past to (first_fit anchor.now (codes_of R.Element.alphabet (R.elements reading.now)) from) }
 {
     let width = anchor.len();
     let last = (reading.len() as usize)

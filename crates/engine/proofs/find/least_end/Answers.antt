@@ -4,10 +4,8 @@ use Rattle.std.proofs.lemmas.Bool.{both_ways}
 use Rattle.kinds.specs.Fragments.{anchor, bodies}
 use Rattle.kinds.specs.Spans.{NoLess}
 use Rattle.engine.specs.Codes.{codes_of}
-use Rattle.engine.specs.Reading.{held}
 use Rattle.engine.specs.Stored.{placed_of}
-use Rattle.engine.proofs.Anchored.{sides_of}
-use Rattle.engine.proofs.Least.{bounds_of, best_begins, none_begins, best_ends, next_on, next_before, best_next}
+use Rattle.engine.proofs.Least.{sides, bounds_of, best_begins, none_begins, best_ends, next_before, best_next}
 use Rattle.engine.proofs.Smallest.{smaller_ends}
 use Rattle.engine.proofs.find.least_end.Goals as goal
 
@@ -16,7 +14,7 @@ returns-then-not-is_bounded g c f s =
     let pattern = c.args.sequence.now.pattern in
     let xs = codes_of g.R.Element.Kind.alphabet (g.R.Reading.elements c.args.reading.now) in
     let stored = length-map (vec_items pattern.parts) (placed_of (vec_items pattern.codes) (vec_items pattern.runs)) in
-    let bounds = bounds_of c.args.sequence.now.offsets.reference (held pattern) (held c.args.sequence.now.mirror) c.args.fragment.now f s c.args.starts xs (vec_len pattern.parts) (omega arith) in
+    let bounds = bounds_of c.args.sequence.now c.args.fragment.now f s c.args.starts xs (vec_len pattern.parts) (omega arith) in
     absurd (both_ways _ c.if-not-is_bounded.true (c.is_bounded.ensures.1 bounds))
 
 pub returns-in_err-place : goal.returns-in_err-place
@@ -25,56 +23,38 @@ returns-in_err-place g c f s =
     let few = g.R.Reading.bounded c.args.reading.now in
     let many = length-map (g.R.Reading.elements c.args.reading.now) g.R.Element.Kind.alphabet.code in
     c.from_residual.ensures
-    ∙ none_begins c.args.sequence.now.offsets.reference (held c.args.sequence.now.pattern) (held c.args.sequence.now.mirror) c.args.fragment.now f s c.args.starts (codes_of g.R.Element.Kind.alphabet all) (omega arith) c.in_err-place.ensures
+    ∙ none_begins c.args.sequence.now c.args.fragment.now f s c.args.starts (codes_of g.R.Element.Kind.alphabet all) (omega arith) c.in_err-place.ensures
 
 pub loop-fit-init : goal.loop-fit-init
 loop-fit-init g c f s =
     let few = g.R.Reading.bounded c.args.reading.now in
     let many = length-map (g.R.Reading.elements c.args.reading.now) g.R.Element.Kind.alphabet.code in
-    best_begins c.args.sequence.now.offsets.reference (held c.args.sequence.now.pattern) (held c.args.sequence.now.mirror) c.args.fragment.now f s c.args.starts
+    best_begins c.args.sequence.now c.args.fragment.now f s c.args.starts
     (codes_of g.R.Element.Kind.alphabet (g.R.Reading.elements c.args.reading.now)) c.in_ok-place.place c.last_place-last.result c.in_ok-place.ensures (omega arith) c.last_place-last.ensures
-
-pub returns-then-fit-place : goal.returns-then-fit-place
-returns-then-fit-place g c f s =
-    let pattern = c.args.sequence.now.pattern in
-    let mirror = c.args.sequence.now.mirror in
-    let fragment = c.args.fragment.now in
-    let xs = codes_of g.R.Element.Kind.alphabet (g.R.Reading.elements c.args.reading.now) in
-    let codes = c.as_slice-codes.ensures.value in
-    let on = next_on c.args.sequence.now.offsets.reference (held pattern) (held mirror) fragment f s c.args.starts xs _ codes c.loop-fit.place c.loop-fit.last c.next_fit_up_to.result c.next_fit_up_to.ensures c.in-Some.fit c.in-Some.is in
-    absurd (omega arith)
 
 pub returns-in_err-place-2 : goal.returns-in_err-place-2
 returns-in_err-place-2 g c f s =
-    let pattern = c.args.sequence.now.pattern in
-    let mirror = c.args.sequence.now.mirror in
-    let fragment = c.args.fragment.now in
     let xs = codes_of g.R.Element.Kind.alphabet (g.R.Reading.elements c.args.reading.now) in
     let codes = c.as_slice-codes.ensures.value in
     let few = g.R.Reading.bounded c.args.reading.now in
     let many = length-map (g.R.Reading.elements c.args.reading.now) g.R.Element.Kind.alphabet.code in
-    let before = next_before c.args.sequence.now.offsets.reference (held pattern) (held mirror) fragment f s c.args.starts xs _ codes c.loop-fit.place c.loop-fit.last c.next_fit_up_to.result c.next_fit_up_to.ensures c.in-Some.fit c.in-Some.is (omega arith) in
+    let before = next_before c.args.sequence.now c.args.fragment.now f s c.args.starts xs _ codes c.loop-fit.place c.loop-fit.last c.next_fit_up_to.result c.next_fit_up_to.ensures.first c.in-Some.fit c.in-Some.is (omega arith) in
     absurd (omega (arith, c.in_err-place-2.ensures))
 
 pub loop-fit-preserved : goal.loop-fit-preserved
 loop-fit-preserved g c f s =
-    let pattern = c.args.sequence.now.pattern in
-    let mirror = c.args.sequence.now.mirror in
     let fragment = c.args.fragment.now in
     let xs = codes_of g.R.Element.Kind.alphabet (g.R.Reading.elements c.args.reading.now) in
     let codes = c.as_slice-codes.ensures.value in
     let long : length c.as_slice-codes.result.now ≡ vec_len fragment.codes = ap length codes ∙ sym fragment.codes.ok.0 in
     let narrow = λ (q : ℕ) (past : c.last_useful-last.result < q). subst (λ n. (c.loop-fit.last < q) ⊎ NoLess c.smaller-best.result (q + n)) long (c.last_useful-last.ensures q past) in
-    best_next c.args.sequence.now.offsets.reference (held pattern) (held mirror) fragment f s c.args.starts xs _ codes c.loop-fit.place c.loop-fit.last c.next_fit_up_to.result c.next_fit_up_to.ensures
+    best_next c.args.sequence.now c.args.fragment.now f s c.args.starts xs _ codes c.loop-fit.place c.loop-fit.last c.next_fit_up_to.result c.next_fit_up_to.ensures.first
     c.in-Some.fit c.in-Some.is c.loop-fit.best c.end_through.result c.smaller-best.result c.in_ok-place-2.place c.last_useful-last.result
-    (λ y. c.end_through.ensures (anchor c.args.sequence.now.offsets.reference (bodies f.body)) (sides_of c.args.sequence.now.offsets.reference (held pattern) (held mirror) fragment f s) y)
+    (λ y. c.end_through.ensures (anchor c.args.sequence.now.offsets.reference (bodies f.body)) (sides c.args.sequence.now c.args.fragment.now f s c.args.starts xs) y)
     (c.smaller-best.ensures ∙ smaller_ends c.loop-fit.best c.end_through.result) c.in_ok-place-2.ensures.1 narrow (c.loop-fit.invariant f s)
 
 pub returns : goal.returns
 returns g c f s =
-    let pattern = c.args.sequence.now.pattern in
-    let mirror = c.args.sequence.now.mirror in
-    let fragment = c.args.fragment.now in
     let xs = codes_of g.R.Element.Kind.alphabet (g.R.Reading.elements c.args.reading.now) in
     let codes = c.as_slice-codes.ensures.value in
-    best_ends c.args.sequence.now.offsets.reference (held pattern) (held mirror) fragment f s c.args.starts xs _ codes c.loop-fit.place c.loop-fit.last c.next_fit_up_to.result c.next_fit_up_to.ensures c.loop-fit.best c.in_default.is (c.loop-fit.invariant f s)
+    best_ends c.args.sequence.now c.args.fragment.now f s c.args.starts xs _ codes c.loop-fit.place c.loop-fit.last c.next_fit_up_to.result c.next_fit_up_to.ensures.first c.loop-fit.best c.in_default.is (c.loop-fit.invariant f s)

@@ -6,19 +6,19 @@ use Rattle.engine.specs.Codes.{codes_of}
 use Rattle.engine.proofs.Fits.{code_at, code_past, found_here, found_none, found_last, found_past, moves_on}
 use Rattle.engine.proofs.scan.next_fit_up_to.Goals as goal
 
-pub returns-in_err-checked_sub : goal.returns-in_err-checked_sub
-returns-in_err-checked_sub g c table =
+pub returns-in_err-checked_sub-clause-first : goal.returns-in_err-checked_sub-clause-first
+returns-in_err-checked_sub-clause-first g c table =
     let xs = g.R.Reading.elements c.args.reading.now in
     let size = length-map xs g.R.Element.Kind.alphabet.code in
     c.from_residual.ensures ∙ found_none c.args.anchor.now _ c.args.from c.args.to c.args.from refl (omega (arith, c.in_err-checked_sub.ensures))
 
-pub returns-then-fits : goal.returns-then-fits
-returns-then-fits g c table =
+pub returns-then-fits-clause-first : goal.returns-then-fits-clause-first
+returns-then-fits-clause-first g c table =
     let xs = g.R.Reading.elements c.args.reading.now in
     found_here c.args.anchor.now (codes_of g.R.Element.Kind.alphabet xs) c.args.from c.args.to (c.loop-end.end - length c.args.anchor.now) (c.loop-end.invariant.1 table) (omega arith) (sym c.if-fits.ensures)
 
-pub returns-in_err-beyond : goal.returns-in_err-beyond
-returns-in_err-beyond g c table =
+pub returns-in_err-beyond-clause-first : goal.returns-in_err-beyond-clause-first
+returns-in_err-beyond-clause-first g c table =
     let xs = g.R.Reading.elements c.args.reading.now in
     let past = code_past g.R.Element.Kind.alphabet xs c.loop-end.end (sym c.at.ensures ∙ c.in_err-beyond.was) in
     c.from_residual-in_err-beyond.ensures
@@ -40,8 +40,8 @@ loop-end-preserved g c =
           ∙ c.loop-end.invariant.1 table,
     )
 
-pub returns : goal.returns
-returns g c table =
+pub returns-clause-first : goal.returns-clause-first
+returns-clause-first g c table =
     let anchor = c.args.anchor.now in
     let xs = g.R.Reading.elements c.args.reading.now in
     let size = length-map xs g.R.Element.Kind.alphabet.code in

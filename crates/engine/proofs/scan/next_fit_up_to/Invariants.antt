@@ -3,11 +3,11 @@ use Rattle.kinds.specs.Search.{first_fit}
 use Rattle.engine.specs.Codes.{codes_of, ShiftsOf}
 use Rattle.engine.proofs.scan.next_fit_up_to.Given as goal
 
--- no place before this window's is missed
+-- the window stands no earlier than the search begins, and no place before its own is missed
 abbrev pub invariant-loop-end : goal.invariant-loop-end
 invariant-loop-end g l =
     let codes = codes_of g.R.Element.Kind.alphabet (g.R.Reading.elements l.reading) in
-    (length l.anchor ≤ l.end) × (ShiftsOf l.shifts l.anchor → first_fit l.anchor codes (l.end - length l.anchor) ≡ first_fit l.anchor codes l.from)
+    (l.from + length l.anchor ≤ l.end) × (ShiftsOf l.shifts l.anchor → first_fit l.anchor codes (l.end - length l.anchor) ≡ first_fit l.anchor codes l.from)
 
 abbrev pub decreases-loop-end : goal.decreases-loop-end
 decreases-loop-end g l = l.last + l.width + 1 - l.end

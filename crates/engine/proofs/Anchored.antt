@@ -45,7 +45,7 @@ part_within qs first end from to a b c =
 -- Mirrored items.
 
 -- as many mirrored items as items
-pub length_mirrored : (qs : List Placed) → length (mirrored_placed qs) ≡ length qs
+length_mirrored : (qs : List Placed) → length (mirrored_placed qs) ≡ length qs
 length_mirrored [] = refl
 length_mirrored (q ∷ qs) = omega (arith, length-append (mirrored_placed qs) (record { place = q.place; item = mirrored_item q.item } ∷ []), length_mirrored qs)
 

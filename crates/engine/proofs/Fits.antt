@@ -55,7 +55,7 @@ stands_decides codes xs place = Decides-like (stands_at codes xs place) there ba
         (s.inside, ext_get_or 0 _ codes size (λ k h. let before : k < length codes = omega arith in in_stretch k before ∙ s.equal k before))
 
 -- where they cannot, it fails
-pub stands_not : (codes xs : List ℕ) (place : ℕ) → (Stands codes xs place → ⊥) → stands_at codes xs place ≡ false
+stands_not : (codes xs : List ℕ) (place : ℕ) → (Stands codes xs place → ⊥) → stands_at codes xs place ≡ false
 stands_not codes xs place none = not-true _ ((Decides-not _ (stands_decides codes xs place)).1 none)
 
 -- the place that stands so far behind another has a code
@@ -99,7 +99,7 @@ smallest_first n [] = omega arith
 smallest_first n (m ∷ ms) = omega (arith, smallest_first (min n m) ms)
 
 -- a shift is at most the length plus 1
-pub shift_most : (codes : List ℕ) (index : ℕ) → shift codes index ≤ suc (length codes)
+shift_most : (codes : List ℕ) (index : ℕ) → shift codes index ≤ suc (length codes)
 shift_most codes index = smallest_first _ (distances codes index)
 
 -- the smallest distance of a code's index is at most the code's
@@ -120,12 +120,12 @@ smallest_distance (c ∷ cs) n (suc k) h =
     (λ _. omega (arith, smallest_distance cs n k (omega arith)))
 
 -- so is the shift of its index
-pub shift_least : (codes : List ℕ) (k : ℕ) → k < length codes → shift codes (get_or codes k 0 % 256) ≤ length codes - k
+shift_least : (codes : List ℕ) (k : ℕ) → k < length codes → shift codes (get_or codes k 0 % 256) ≤ length codes - k
 shift_least codes = smallest_distance codes (suc (length codes))
 
 -- The element beyond the window would be the code that stands this far before the codes' end, so they stand at no place that
 -- the shift of the element passes over.
-pub passed_over : (codes xs : List ℕ) (place k : ℕ) → 0 < k → k < shift codes (get_or xs (place + length codes) 0 % 256) → Stands codes xs (place + k) → ⊥
+passed_over : (codes xs : List ℕ) (place k : ℕ) → 0 < k → k < shift codes (get_or xs (place + length codes) 0 % 256) → Stands codes xs (place + k) → ⊥
 passed_over codes xs place k some below s =
     let beyond = get_or xs (place + length codes) 0 in
     let at = length codes - k in
@@ -140,14 +140,14 @@ passed_over codes xs place k some below s =
 
 module _ (codes xs : List ℕ) where
   -- where codes stand, the first place is here
-  pub first_here : (place : ℕ) → stands_at codes xs place ≡ true → first_fit codes xs place ≡ Some place
+  first_here : (place : ℕ) → stands_at codes xs place ≡ true → first_fit codes xs place ≡ Some place
   first_here place e =
       let s = (stands_decides codes xs place).0 e in
       let left : suc (length xs) - place ≡ suc (length xs - place) = omega (arith, s.inside) in
       ap (first_fit_from codes xs place) left ∙ rw (e, first_fit_from)
 
   -- where they do not, it is the first from the next place on
-  pub first_later : (place : ℕ) → stands_at codes xs place ≡ false → first_fit codes xs place ≡ first_fit codes xs (suc place)
+  first_later : (place : ℕ) → stands_at codes xs place ≡ false → first_fit codes xs place ≡ first_fit codes xs (suc place)
   first_later place e =
       ⊎_elim
       (λ past.
@@ -160,7 +160,7 @@ module _ (codes xs : List ℕ) where
       (cases_lt (length xs) place)
 
   -- places where they do not stand may be passed over
-  pub first_beyond : (place d : ℕ) → ((k : ℕ) → k < d → Stands codes xs (place + k) → ⊥) → first_fit codes xs place ≡ first_fit codes xs (place + d)
+  first_beyond : (place d : ℕ) → ((k : ℕ) → k < d → Stands codes xs (place + k) → ⊥) → first_fit codes xs place ≡ first_fit codes xs (place + d)
   first_beyond place zero none = ap (first_fit codes xs) (sym (add-zero place))
   first_beyond place (suc d) none =
       let next : suc (place + d) ≡ place + suc d = omega arith in
@@ -193,11 +193,11 @@ module _ (codes xs : List ℕ) where
   -- Not past the last place.
 
   -- a first place that is not past the last is it
-  pub first_within : (place last : ℕ) → place ≤ last → not_past last (Some place) ≡ Some place
+  first_within : (place last : ℕ) → place ≤ last → not_past last (Some place) ≡ Some place
   first_within place last h = cond-true (leb place last) (Some place) None (le-leb place last h)
 
   -- from past the last place on, there is none
-  pub first_past : (place last : ℕ) → last < place → not_past last (first_fit codes xs place) ≡ None
+  first_past : (place last : ℕ) → last < place → not_past last (first_fit codes xs place) ≡ None
   first_past place last h = go (first_fit codes xs place) (first_fit_exactly codes xs place)
     where
       go : (o : Option ℕ) → FirstFit codes xs place o → not_past last o ≡ None

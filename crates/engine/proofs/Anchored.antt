@@ -1,4 +1,4 @@
--- The anchor of a compiled fragment among the items of its pattern: its codes, and what stands before and behind it.
+-- The anchor of a compiled fragment among the items of its pattern: how long it is, and what stands before and behind it.
 use Rattle.std.proofs.Common.{◌≡◌, ℕ, zero, suc, ◌+◌, ◌-◌, ◌≤◌, List, [], ◌∷◌, ◌++◌, length, take, drop, vec_len, sym, refl, ap, ◌∙◌, ap₂, arith, length-append, length-drop, length-take}
 use Rattle.std.proofs.lemmas.List.{append_assoc, take-append-drop, take-take, take_at, drop_at, drop-drop, drop-take, take_all}
 use Rattle.kinds.specs.Fragments as spec

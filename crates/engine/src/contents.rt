@@ -26,6 +26,8 @@ fn extent_of(runs: &[Run]) -> Extent
     Extent { least, span }
 }
 
+// Runs and parts are copied out of a pattern, so that it has them is required here: a type that says so would have to lend the
+// pattern with each.
 impl Pattern {
     // The codes of a run.
     pub(crate) fn run_codes(&self, run: Run) -> &[u16]

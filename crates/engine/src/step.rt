@@ -25,6 +25,9 @@ pub enum Step {
     Complete(Part),
 }
 
+// The functions below take the cases of a context apart, so each requires that its case lies within the pattern: a struct of
+// both, which says so once, would have to be matched again in each.
+
 // A punctuation between items: it opens a group or a range.
 fn between(pattern: &Pattern, mark: Punctuation) -> Step
     ensures { (p : Position) → StepsTo pattern.now pattern.now (next_by nameless (between_items p) (character mark)) result }

@@ -11,6 +11,7 @@ pub trait Kind: Copy {
     fn named(first: u8, second: u8) -> Option<Self>
         ensures { result ≡ alphabet.named first second };
 
+    // The kinds of records are numbers and no enum: any type may be a kind, with the numbers that its files have.
     fn signature_record() -> u16
         ensures { result ≡ alphabet.signature_record };
 

@@ -85,13 +85,19 @@ fn numbers_of(fragments: &[Fragment], number: usize, index: u8) -> Option<(u64, 
 // What a text compiles to, by the number of a fragment and an index, or the text's refusal.
 pub fn show<K: Kind>(
     heap: Global,
-    offsets: Offsets,
+    reference: Reference,
+    lo: u16,
     text: &[u8],
     number: usize,
     index: u8,
 ) -> Result<Option<(u64, u64, usize, u32)>, Failure>
-    ensures { Shown K.alphabet text.now 1 offsets.reference offsets.lo number index result }
+    ensures { Shown K.alphabet text.now 1 reference lo number index result }
 {
+    let offsets = Offsets {
+        reference,
+        lo,
+        hi: lo,
+    };
     let sequence = compiled::<K>(heap, 1, offsets, text)?;
     Ok(numbers_of(sequence.fragments.as_slice(), number, index))
 }

@@ -1,7 +1,7 @@
 // The commands, each from a line's words to its answer.
 use crate::complaint::Complaint;
 use crate::elements::elements_of;
-use crate::patterns::{Sequence, hit, read, shown};
+use crate::patterns::{Words, hit, read, shown};
 use kinds::backward::Backward;
 use kinds::byte::Byte;
 use kinds::held::Held;
@@ -23,8 +23,8 @@ enum Order {
 enum Command<'l> {
     Codes(Order, &'l str),
     Read(&'l str),
-    Show(Sequence<'l>, &'l str, &'l str),
-    Hit(Sequence<'l>, &'l str),
+    Show(Words<'l>, &'l str, &'l str),
+    Hit(Words<'l>, &'l str),
 }
 
 impl Command<'_> {
@@ -56,11 +56,11 @@ pub fn answer(heap: Global, line: &str) -> Result<String, Complaint> {
         ["backward", kind, elements] => (kind, Command::Codes(Order::Backward, elements)),
         ["read", kind, text] => (kind, Command::Read(text)),
         ["show", kind, sequence @ .., fragment, index] => {
-            let sequence = Sequence::try_from(sequence)?;
+            let sequence = Words::try_from(sequence)?;
             (kind, Command::Show(sequence, fragment, index))
         }
         ["hit", kind, sequence @ .., elements] => {
-            let sequence = Sequence::try_from(sequence)?;
+            let sequence = Words::try_from(sequence)?;
             (kind, Command::Hit(sequence, elements))
         }
         ["codes" | "backward" | "marks" | "read" | "show" | "hit", ..] => {

@@ -23,7 +23,7 @@ fn text_of(line: &[u8]) -> Result<&str, Complaint> {
     std::str::from_utf8(line).map_err(|_| Complaint::NotText)
 }
 
-// The answer to a line without its end.
+// The answer to a line that was read, with its end.
 fn respond(heap: Global, line: &[u8]) -> Result<String, Complaint> {
     answer(heap, text_of(line)?)
 }

@@ -11,23 +11,23 @@ use kinds::pattern::{Offsets, Reference};
 use std::alloc::Global;
 use std::str::FromStr;
 
-// A sequence as a line gives it.
+// A sequence as a line gives it: its words.
 #[derive(Clone, Copy)]
-pub struct Sequence<'l> {
+pub struct Words<'l> {
     reference: &'l str,
     lo: &'l str,
     hi: &'l str,
     text: &'l str,
 }
 
-impl<'l> TryFrom<&[&'l str]> for Sequence<'l> {
+impl<'l> TryFrom<&[&'l str]> for Words<'l> {
     type Error = Complaint;
 
-    fn try_from(words: &[&'l str]) -> Result<Sequence<'l>, Complaint> {
+    fn try_from(words: &[&'l str]) -> Result<Words<'l>, Complaint> {
         let [reference, lo, hi, text] = words else {
             return Err(Complaint::NumberOfWords);
         };
-        Ok(Sequence {
+        Ok(Words {
             reference,
             lo,
             hi,
@@ -52,7 +52,7 @@ impl FromStr for Letter {
     }
 }
 
-impl Sequence<'_> {
+impl Words<'_> {
     // Its reference and offsets, as a record has them.
     fn offsets(self) -> Result<Offsets, Complaint> {
         let Letter(reference) = self.reference.parse()?;
@@ -80,16 +80,17 @@ pub fn read<K: Kind>(heap: Global, text: &str) -> Result<String, Complaint> {
 // The numbers of a text's fragment, or the text's refusal.
 pub fn shown<K: Kind>(
     heap: Global,
-    sequence: Sequence,
+    sequence: Words,
     fragment: &str,
     index: &str,
 ) -> Result<String, Complaint> {
-    let offsets = sequence.offsets()?;
+    let Offsets { reference, lo, .. } = sequence.offsets()?;
     let fragment = number_of(fragment)?;
     let index = index_of(index)?;
     match show::<K>(
         heap,
-        offsets,
+        reference,
+        lo,
         sequence.text.as_bytes(),
         usize::from(fragment),
         index,
@@ -101,7 +102,7 @@ pub fn shown<K: Kind>(
 }
 
 // Whether a sequence hits the reading of the elements, or the text's refusal.
-pub fn hit<K: Kind>(heap: Global, sequence: Sequence, elements: &str) -> Result<String, Complaint> {
+pub fn hit<K: Kind>(heap: Global, sequence: Words, elements: &str) -> Result<String, Complaint> {
     let offsets = sequence.offsets()?;
     let elements: Vec<K> = elements_of(heap, elements)?;
     match text::hit(

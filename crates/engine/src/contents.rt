@@ -10,7 +10,7 @@ use crate::pattern::Pattern;
 use crate::run::Run;
 
 // How many elements a part takes: the least number, and the one that it spans, which is the greatest, or 0 for a gap
-// without upper end.
+// without upper end, as the rules count a span.
 #[derive(Clone, Copy)]
 pub(crate) struct Extent {
     pub(crate) least: usize,

@@ -8,7 +8,8 @@ use crate::cause::Cause;
 use std::alloc::{AllocError, Global};
 use std::fmt;
 
-// A refusal of an input: its cause, the number of the sequence (0 outside one), and the place. It goes up unchanged.
+// A refusal of an input: its cause, the number of the sequence (0 outside one, as it is written), and the place. It goes up
+// unchanged.
 #[derive(Clone, Copy, PartialEq, Eq, Debug)]
 pub struct Fault {
     pub cause: Cause,

@@ -73,6 +73,17 @@ impl Pattern {
             _ => false,
         }
     }
+
+    // What is kept of all items, the last fragment ended.
+    fn tally(&self) -> Tally
+        ensures { result ≡ closed (tallied initial (held self.now)) }
+    {
+        let mut tally = Tally::INITIAL;
+        for part in &self.parts {
+            tally = tally.with_item(self, *part);
+        }
+        tally.close()
+    }
 }
 
 impl Stretch {
@@ -110,6 +121,8 @@ impl Stretch {
     }
 }
 
+// Each function that may end a fragment requires room for one fragment more: the count behind it need not have it, so that is
+// no fact of the type.
 impl Tally {
     // Before the first item.
     const INITIAL: Tally = Tally {
@@ -183,19 +196,6 @@ impl Tally {
             Part::Gap(_) => judged.with_gap(item),
             _ => judged.with_thing(item),
         }
-    }
-}
-
-impl Pattern {
-    // What is kept of all items, the last fragment ended.
-    fn tally(&self) -> Tally
-        ensures { result ≡ closed (tallied initial (held self.now)) }
-    {
-        let mut tally = Tally::INITIAL;
-        for part in &self.parts {
-            tally = tally.with_item(self, *part);
-        }
-        tally.close()
     }
 }
 

@@ -46,6 +46,8 @@ impl Pattern {
         }
     }
 
+    // One for each list, since each needs and says another fact.
+
     // Puts one code behind the others.
     pub(crate) fn push_code(&mut self, code: u16) -> Result<(), AllocError>
         ensures { IfOk result (λ _. CodePushed self.old code self.new) }

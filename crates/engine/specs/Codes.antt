@@ -1,5 +1,5 @@
 -- The codes of a reading's elements, the table of an anchor's shifts, and the places that are looked at.
-use Rattle.std.specs.Prelude.{◌≡◌, ℕ, ◌<◌, cond, List, map, Some, None, Option, nat_le, slice_index}
+use Rattle.std.specs.Prelude.{◌≡◌, ℕ, ◌<◌, if◌then◌else◌, List, map, Some, None, Option, nat_le, slice_index}
 use Rattle.kinds.specs.Alphabet.{Alphabet}
 use Rattle.kinds.specs.Fragments.{shift}
 
@@ -13,5 +13,5 @@ ShiftsOf shifts anchor = (index : ℕ) → index < 256 → slice_index shifts in
 
 -- a place, if it is not past the last one that is looked at
 abbrev pub not_past : ℕ → Option ℕ → Option ℕ
-not_past last (Some place) = cond (nat_le place last) (Some place) None
+not_past last (Some place) = if nat_le place last then Some place else None
 not_past last None = None

@@ -1,5 +1,5 @@
 -- What a compiled fragment holds, by the items that it was compiled from.
-use Rattle.std.specs.Prelude.{◌≡◌, ℕ, ◌+◌, ◌-◌, ◌<◌, ◌≤◌, List, [], ◌∷◌, length, take, drop, Some, None, slice_index, vec_items, vec_len}
+use Rattle.std.specs.Prelude.{◌≡◌, ℕ, ◌+◌, ◌-◌, ◌<◌, ◌≤◌, List, [], ◌∷◌, length, take, drop, Some, None, slice_index, vec_items, vec_len, ⊤}
 use Rattle.kinds.specs.Fragments as spec
 use Rattle.kinds.specs.Fragments.{Anchor, anchor, lead, shift, bodies, literal_code}
 use Rattle.kinds.specs.Grammar.{Placed}
@@ -32,7 +32,7 @@ pub record Holds (r : Reference) (items : List Placed) (f : Fragment) (g : spec.
 
 -- compiled fragments hold those of the items, one for one
 abbrev pub Hold : Reference → List Placed → List Fragment → List spec.Fragment → Type 0
-Hold r items [] [] = Unit {0}
+Hold r items [] [] = ⊤
 Hold r items [] (g ∷ gs) = ⊥
 Hold r items (f ∷ fs) [] = ⊥
 Hold r items (f ∷ fs) (g ∷ gs) = Holds r items f g × Hold r items fs gs

@@ -1,5 +1,5 @@
 -- Where the reader of texts is, by what it has stored, and what one token does there.
-use Rattle.std.specs.Prelude.{◌≡◌, ℕ, ◌≤◌, Bool, true, false, List, [], ◌∷◌, ◌++◌, map, length, drop, None, vec_items}
+use Rattle.std.specs.Prelude.{◌≡◌, ℕ, ◌≤◌, Bool, true, false, List, [], ◌∷◌, ◌++◌, map, length, drop, None, vec_items, ⊤}
 use Rattle.kinds.specs.Alphabet.{Alphabet}
 use Rattle.kinds.specs.Grammar.{start, after_thing, after_gap}
 use Rattle.kinds.specs.Reader.{State, between, alternatives, bracket, low, high, Next, stuck, goes_on, complete}
@@ -58,11 +58,11 @@ state_of codes runs (context.High inside first from) = high inside (run_codes co
 
 -- a context lies within the codes and runs that are stored
 abbrev pub LiesWithin : List ℕ → List Run → Context → Type 0
-LiesWithin codes runs context.Start = Unit {0}
-LiesWithin codes runs context.AfterThing = Unit {0}
-LiesWithin codes runs context.AfterGap = Unit {0}
+LiesWithin codes runs context.Start = ⊤
+LiesWithin codes runs context.AfterThing = ⊤
+LiesWithin codes runs context.AfterGap = ⊤
 LiesWithin codes runs (context.Group first from) = (first ≤ length runs) × (from ≤ length codes)
-LiesWithin codes runs context.Bracket = Unit {0}
+LiesWithin codes runs context.Bracket = ⊤
 LiesWithin codes runs (context.Low inside from) = from ≤ length codes
 LiesWithin codes runs (context.High inside first from) = (run_within codes first ≡ true) × (from ≤ length codes)
 
@@ -74,7 +74,7 @@ step_of codes runs (step.Complete p) = complete (item_of codes runs p)
 
 -- what a step holds lies within the codes and runs that are stored
 abbrev pub StepLiesWithin : List ℕ → List Run → Step → Type 0
-StepLiesWithin codes runs step.Stuck = Unit {0}
+StepLiesWithin codes runs step.Stuck = ⊤
 StepLiesWithin codes runs (step.Within c) = LiesWithin codes runs c
 StepLiesWithin codes runs (step.Complete p) = part_within codes runs p ≡ true
 
@@ -87,7 +87,7 @@ abbrev pub ContextWithin : Pattern → Context → Type 0
 ContextWithin p c = LiesWithin (vec_items p.codes) (vec_items p.runs) c
 
 -- the kind in which no pair names an element: with it the definition says what a token does, which is the same for every kind
-abbrev pub nameless : Alphabet (Unit {0})
+abbrev pub nameless : Alphabet ⊤
 nameless = record { code = λ _. 0; named = λ _ _. None; signature_record = 0; format_record = 0 }
 
 -- a step keeps the items of a pattern, is what comes next, and lies within the pattern

@@ -1,5 +1,5 @@
 -- What the reader of texts answers.
-use Rattle.std.specs.Prelude.{◌≡◌, ℕ, List, Ok, Err, vec_items, Result}
+use Rattle.std.specs.Prelude.{◌≡◌, ℕ, List, Ok, Err, vec_items, Result, ⊤}
 use Rattle.kinds.specs.Alphabet.{Alphabet}
 use Rattle.kinds.specs.Grammar.{Placed}
 use Rattle.kinds.specs.Reader.{items_of}
@@ -16,5 +16,5 @@ held p = items (vec_items p.codes) (vec_items p.runs) (vec_items p.parts)
 -- a text is read as its items, or refused at the place that the definition gives; or memory ran out
 abbrev pub Read : {E : Type 0} → Alphabet E → List ℕ → ℕ → Result Pattern Failure → Type 0
 Read a t sequence (Ok p) = items_of a t ≡ Ok (held p)
-Read a t sequence (Err Memory) = Unit {0}
+Read a t sequence (Err Memory) = ⊤
 Read a t sequence (Err (Refused f)) = (items_of a t ≡ Err f.place) × (f.cause ≡ Grammar) × (f.sequence ≡ sequence)

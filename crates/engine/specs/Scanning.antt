@@ -27,6 +27,7 @@ module _ {E : Type 0} (a : Alphabet E) (first : ℕ) (t : List ℕ) (place : ℕ
   NoPair = place < length t → a.named first (slice_index t place) ≡ None
 
 module _ (t : List ℕ) (place : ℕ) where
+  -- no digit stands there
   abbrev pub NoDigit : Type 0
   NoDigit = place < length t → within 48 57 (slice_index t place) ≡ false
 

@@ -1,5 +1,5 @@
 -- What texts are refused for, and what sequences are compiled to.
-use Rattle.std.specs.Prelude.{◌≡◌, ℕ, zero, suc, Bool, List, length, Some, None, Ok, Err, vec_items, Option, Result}
+use Rattle.std.specs.Prelude.{◌≡◌, ℕ, zero, suc, Bool, List, length, Some, None, Ok, Err, vec_items, Option, Result, ⊤}
 use Rattle.std.specs.List.{slice_get}
 use Rattle.std.specs.Option.{option_map}
 use Rattle.kinds.specs.Alphabet.{Alphabet}
@@ -31,9 +31,10 @@ outcome a t =
 
 -- memory ran out, or a refusal has the cause, the sequence and the place
 abbrev pub Refused : {E : Type 0} → Alphabet E → List ℕ → ℕ → Failure → Type 0
-Refused a t sequence failure.Memory = Unit {0}
+Refused a t sequence failure.Memory = ⊤
 Refused a t sequence (failure.Refused f) = (outcome a t ≡ Err (f.cause, f.place)) × (f.sequence ≡ sequence)
 
+-- a text read and not refused gives its items, else it is refused
 abbrev pub Checked : {E : Type 0} → Alphabet E → List ℕ → ℕ → Result Pattern Failure → Type 0
 Checked a t sequence (Ok p) = outcome a t ≡ Ok (held p)
 Checked a t sequence (Err f) = Refused a t sequence f
@@ -55,6 +56,7 @@ pub record CompiledFrom {E : Type 0} (a : Alphabet E) (t : List ℕ) (r : Refere
   pub reference : s.offsets.reference ≡ r
   pub offsets : (s.offsets.lo ≡ lo) × (s.offsets.hi ≡ hi)
 
+-- a text not refused gives a sequence compiled from it, else it is refused
 abbrev pub Compiled : {E : Type 0} → Alphabet E → List ℕ → ℕ → Reference → ℕ → ℕ → Result Sequence Failure → Type 0
 Compiled a t number r lo hi (Ok s) = CompiledFrom a t r lo hi s
 Compiled a t number r lo hi (Err f) = Refused a t number f

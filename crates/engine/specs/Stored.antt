@@ -20,6 +20,7 @@ item_of codes runs (part.Range direction inside low high) = range direction insi
 item_of codes runs (part.Other run) = other (run_codes codes run)
 item_of codes runs (part.Gap g) = gap g.least g.most
 
+-- the same with its place
 abbrev pub placed_of : List ℕ → List Run → PlacedPart → Placed
 placed_of codes runs p = record { place = p.place; item = item_of codes runs p.part }
 
@@ -27,14 +28,16 @@ placed_of codes runs p = record { place = p.place; item = item_of codes runs p.p
 abbrev pub items : List ℕ → List Run → List PlacedPart → List Placed
 items codes runs parts = map (placed_of codes runs) parts
 
--- runs and parts lie within the lists that they are parts of
+-- a run lies within the codes
 abbrev pub run_within : List ℕ → Run → Bool
 run_within codes r = nat_le (r.start + r.len) (length codes)
 
+-- all of some runs do
 abbrev pub all_runs_within : List ℕ → List Run → Bool
 all_runs_within codes [] = true
 all_runs_within codes (r ∷ rs) = run_within codes r && all_runs_within codes rs
 
+-- the runs of a part lie within the lists of codes and runs
 abbrev pub part_within : List ℕ → List Run → Part → Bool
 part_within codes runs (part.Literal c) = true
 part_within codes runs part.Any = true
@@ -43,6 +46,7 @@ part_within codes runs (part.Range direction inside low high) = run_within codes
 part_within codes runs (part.Other run) = run_within codes run
 part_within codes runs (part.Gap g) = true
 
+-- all of some parts do
 abbrev pub all_parts_within : List ℕ → List Run → List PlacedPart → Bool
 all_parts_within codes runs [] = true
 all_parts_within codes runs (p ∷ ps) = part_within codes runs p.part && all_parts_within codes runs ps

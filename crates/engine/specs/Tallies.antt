@@ -1,5 +1,5 @@
 -- What is kept of a pattern's items while its fragments are counted.
-use Rattle.std.specs.Prelude.{ℕ, ◌+◌, ◌-◌, ◌^◌, min, Bool, false, cond, ◌||◌, List, [], ◌∷◌, Some, None, Option, nat_le, nat_lt}
+use Rattle.std.specs.Prelude.{ℕ, ◌+◌, ◌-◌, ◌^◌, min, Bool, false, if◌then◌else◌, ◌||◌, List, [], ◌∷◌, Some, None, Option, nat_le, nat_lt}
 use Rattle.std.specs.Option.{option_or, unwrap_or}
 use Rattle.kinds.specs.Fragments.{span, is_gap, endless, wrong, least_with, is_literal}
 use Rattle.kinds.specs.Grammar.{Placed}
@@ -25,7 +25,7 @@ initial = record { ended = 0; body = empty; row = empty; limit = None; bare = No
 
 -- a place that may be beyond a limit, and the smallest that was found before
 abbrev pub smallest_with : Option ℕ → Bool → ℕ → Option ℕ
-smallest_with found beyond place = cond beyond (least_with found place) found
+smallest_with found beyond place = if beyond then least_with found place else found
 
 -- the fragment has ended
 abbrev pub closed : Tally → Tally
@@ -35,7 +35,7 @@ closed t =
       body = empty;
       row = empty;
       limit = smallest_with t.limit (nat_le 8 t.ended || nat_lt 1024 t.body.span) (unwrap_or t.body.start 0);
-      bare = cond t.body.literal t.bare (option_or t.bare (Some (unwrap_or t.body.start 0)));
+      bare = if t.body.literal then t.bare else option_or t.bare (Some (unwrap_or t.body.start 0));
     }
 
 -- an item is judged by itself
@@ -57,11 +57,11 @@ extended t s = record { ended = t.ended; body = joined (joined t.body t.row) s; 
 
 -- one more thing: it begins a fragment where the row of gaps before it has no upper end
 abbrev pub with_thing : Tally → Stretch → Tally
-with_thing t s = cond t.row.endless (begun t s) (extended t s)
+with_thing t s = if t.row.endless then begun t s else extended t s
 
 -- one more item
 abbrev pub with_item : Tally → Placed → Tally
-with_item t q = cond (is_gap q.item) (with_gap (judged t q) (single q)) (with_thing (judged t q) (single q))
+with_item t q = if is_gap q.item then with_gap (judged t q) (single q) else with_thing (judged t q) (single q)
 
 -- all items of a list
 abbrev pub tallied : Tally → List Placed → Tally

@@ -1,5 +1,5 @@
 -- What tokens do to the reader of texts: the link between the lexer and the reader's definition.
-use Rattle.std.specs.Prelude.{◌≡◌, ℕ, ◌<◌, ◌≤◌, cond, List, length, take, drop, Some, None, Ok, Err, Option, Result, ◌==◌}
+use Rattle.std.specs.Prelude.{◌≡◌, ℕ, ◌<◌, ◌≤◌, if◌then◌else◌, List, length, take, drop, Some, None, Ok, Err, Option, Result, ◌==◌, ⊤}
 use Rattle.kinds.specs.Alphabet.{Alphabet}
 use Rattle.kinds.specs.Grammar.{Placed, gap_allowed, behind}
 use Rattle.kinds.specs.Patterns.{Item, any, gap}
@@ -17,7 +17,7 @@ use Rattle.engine.specs.declared.token.Token.TheVariants as token
 
 -- what the reader expects in a state: nothing is asked inside a token
 abbrev pub expected : State → Option Expects
-expected (between p) = Some (cond (gap_allowed p) expects.Item expects.Thing)
+expected (between p) = Some (if gap_allowed p then expects.Item else expects.Thing)
 expected asked = None
 expected (half s f) = None
 expected (alternatives runs run) = Some expects.Alternative
@@ -30,17 +30,21 @@ expected (endless m) = None
 -- what a character begins between items, where a gap may stand or not
 abbrev pub class_between : Class → Class → ℕ → Class
 class_between star brace c =
-    cond (c == 63) class.Question
-    (cond (c == 40) (class.Mark OpenGroup) (cond (c == 91) (class.Mark OpenRange) (cond (c == 42) star (cond (c == 123) brace class.Pair))))
+    if c == 63 then class.Question
+    else if c == 40 then class.Mark OpenGroup
+    else if c == 91 then class.Mark OpenRange
+    else if c == 42 then star
+    else if c == 123 then brace
+    else class.Pair
 
 -- what a character begins where something is expected
 abbrev pub class_of : Expects → ℕ → Class
 class_of expects.Thing c = class_between class.Misplaced class.Misplaced c
 class_of expects.Item c = class_between class.Star class.Brace c
-class_of expects.Alternative c = cond (c == 124) (class.Mark Bar) (cond (c == 41) (class.Mark CloseGroup) class.Pair)
-class_of expects.Range c = cond (c == 33) (class.Mark Except) class.Pair
-class_of expects.Low c = cond (c == 58) (class.Mark Colon) (cond (c == 93) (class.Mark CloseRange) class.Pair)
-class_of expects.High c = cond (c == 93) (class.Mark CloseRange) class.Pair
+class_of expects.Alternative c = if c == 124 then class.Mark Bar else if c == 41 then class.Mark CloseGroup else class.Pair
+class_of expects.Range c = if c == 33 then class.Mark Except else class.Pair
+class_of expects.Low c = if c == 58 then class.Mark Colon else if c == 93 then class.Mark CloseRange else class.Pair
+class_of expects.High c = if c == 93 then class.Mark CloseRange else class.Pair
 
 -- the character of a punctuation
 abbrev pub character : Punctuation → ℕ
@@ -55,9 +59,9 @@ character CloseRange = 93
 -- a literal holds the two characters at its place, and the place
 abbrev pub Part : List ℕ → ℕ → Token → Type 0
 Part t place (token.Literal pair at code) = (pair.now ≡ take 2 (drop place t)) × (at ≡ place)
-Part t place token.Any = Unit {0}
-Part t place (token.Mark m) = Unit {0}
-Part t place (token.Gap g) = Unit {0}
+Part t place token.Any = ⊤
+Part t place (token.Mark m) = ⊤
+Part t place (token.Gap g) = ⊤
 
 module _ {E : Type 0} (a : Alphabet E) where
   -- what a token does in a state
@@ -82,6 +86,7 @@ module _ {E : Type 0} (a : Alphabet E) where
     pub inside : later ≤ length t
     pub reads : (from : ℕ) → follow a s from place (drop place t) ≡ in_front a (record { place = from; item = i }) (follow a (between (behind i)) later later (drop later t))
 
+  -- from a place on, a text completes a gap in a state, and goes on at the place behind it
   abbrev pub ReadsGap : List ℕ → State → ℕ → Gap × ℕ → Type 0
   ReadsGap t s place r = Completes t s place (gap r.0.least r.0.most) r.1
 

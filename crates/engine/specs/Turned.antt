@@ -10,6 +10,7 @@ use Rattle.engine.specs.declared.run.Run.{Run}
 abbrev pub turned_run : ℕ → Run → Run
 turned_run n r = record { start = n - r.start - r.len; len = r.len }
 
+-- a part that has runs of n codes, once the codes are reversed
 abbrev pub turned_part : ℕ → Part → Part
 turned_part n (part.Literal c) = part.Literal c
 turned_part n part.Any = part.Any
@@ -18,5 +19,6 @@ turned_part n (part.Range direction inside low high) = part.Range (turned direct
 turned_part n (part.Other run) = part.Other (turned_run n run)
 turned_part n (part.Gap g) = part.Gap g
 
+-- the same with its place
 abbrev pub turned_placed : ℕ → PlacedPart → PlacedPart
 turned_placed n p = record { place = p.place; part = turned_part n p.part }

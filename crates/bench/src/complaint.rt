@@ -1,36 +1,18 @@
 // Why nothing was measured.
 use std::alloc::AllocError;
-use std::{fmt, io};
+use std::io;
+use thiserror::Error;
 
-#[derive(Drop)]
+#[derive(Debug, Drop, Error)]
 pub enum Complaint {
-    Memory,
+    #[error("no memory")]
+    Memory(#[from] AllocError),
+    #[error("the words are FILE TEXT [RUNS] [backward]")]
     Words,
+    #[error("RUNS is a number from 1 to 4294967295")]
     Runs,
+    #[error("FILE cannot be read: {0}")]
     Unreadable(io::Error),
-    System(io::Error),
-}
-
-impl fmt::Display for Complaint {
-    fn fmt<W: fmt::Write>(&self, f: &mut fmt::Formatter<W>) -> fmt::Result {
-        match self {
-            Complaint::Memory => write!(f, "no memory"),
-            Complaint::Words => write!(f, "the words are FILE TEXT [RUNS] [backward]"),
-            Complaint::Runs => write!(f, "RUNS is a number from 1 to 4294967295"),
-            Complaint::Unreadable(e) => write!(f, "FILE cannot be read: {e}"),
-            Complaint::System(e) => write!(f, "{e}"),
-        }
-    }
-}
-
-impl From<AllocError> for Complaint {
-    fn from(_e: AllocError) -> Complaint {
-        Complaint::Memory
-    }
-}
-
-impl From<io::Error> for Complaint {
-    fn from(e: io::Error) -> Complaint {
-        Complaint::System(e)
-    }
+    #[error(transparent)]
+    System(#[from] io::Error),
 }

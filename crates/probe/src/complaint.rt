@@ -1,51 +1,39 @@
 // Why a line has no answer.
 use kinds::spelling::SpellingFault;
 use std::alloc::AllocError;
-use std::fmt;
+use thiserror::Error;
 
-#[derive(Drop)]
+#[derive(Debug, Drop, Error)]
 pub enum Complaint {
-    Memory(AllocError),
+    #[error("no memory")]
+    Memory(#[from] AllocError),
+    #[error("not UTF-8 text")]
     NotText,
+    #[error("empty line")]
     EmptyLine,
+    #[error("words are separated by one space")]
     EmptyWord,
+    #[error("unknown command")]
     UnknownCommand,
+    #[error("unknown kind")]
     UnknownKind,
+    #[error("wrong number of words")]
     NumberOfWords,
+    #[error(transparent)]
     Spelling(SpellingFault),
+    #[error("unknown reference")]
     UnknownReference,
+    #[error("not a number from 0 to 65535")]
     NotANumber,
+    #[error("not an index of two hexadecimal digits")]
     NotAnIndex,
+    #[error("V takes the offsets 0 0")]
     OffsetsAnywhere,
+    #[error("the least offset is above the greatest")]
     OffsetsCrossed,
 }
 
-impl fmt::Display for Complaint {
-    fn fmt<W: fmt::Write>(&self, f: &mut fmt::Formatter<W>) -> fmt::Result {
-        match self {
-            Complaint::Memory(_) => write!(f, "no memory"),
-            Complaint::NotText => write!(f, "not UTF-8 text"),
-            Complaint::EmptyLine => write!(f, "empty line"),
-            Complaint::EmptyWord => write!(f, "words are separated by one space"),
-            Complaint::UnknownCommand => write!(f, "unknown command"),
-            Complaint::UnknownKind => write!(f, "unknown kind"),
-            Complaint::NumberOfWords => write!(f, "wrong number of words"),
-            Complaint::Spelling(fault) => write!(f, "{fault}"),
-            Complaint::UnknownReference => write!(f, "unknown reference"),
-            Complaint::NotANumber => write!(f, "not a number from 0 to 65535"),
-            Complaint::NotAnIndex => write!(f, "not an index of two hexadecimal digits"),
-            Complaint::OffsetsAnywhere => write!(f, "V takes the offsets 0 0"),
-            Complaint::OffsetsCrossed => write!(f, "the least offset is above the greatest"),
-        }
-    }
-}
-
-impl From<AllocError> for Complaint {
-    fn from(e: AllocError) -> Complaint {
-        Complaint::Memory(e)
-    }
-}
-
+// By hand, since want of memory is no matter of spelling: it ends the program, and `#[from]` would print it.
 impl From<SpellingFault> for Complaint {
     fn from(fault: SpellingFault) -> Complaint {
         match fault {

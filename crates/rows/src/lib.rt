@@ -13,7 +13,7 @@ const WORDS: usize = WIDTH / 64;
 // A set of offsets below 1,024: offset k is bit k % 64 of word k / 64.
 #[derive(Clone, Copy, PartialEq, Eq, Debug)]
 pub struct Row {
-    words: [u64; WORDS],
+    pub words: [u64; WORDS],
 }
 
 impl Row {
@@ -227,27 +227,11 @@ mod tests {
         }
     }
 
-    // The row moved on by `by`.
-    fn shifted(mut row: Row, by: usize) -> Row {
-        row.shift(by);
-        row
-    }
-
-    // The row moved on by each distance from `least` to `most`.
-    fn spread(mut row: Row, least: usize, most: usize) -> Row {
-        row.widen(least, most);
-        row
-    }
-
-    // The members that are at most `last`.
-    fn up_to(mut row: Row, last: usize) -> Row {
-        row.cut(last);
-        row
-    }
-
-    // The members that are not the one that a question leaves out.
-    fn kept(mut row: Row, question: &Other) -> Row {
-        row.keep(question);
+    // The row after a change.
+    fn after<C: FnOnce(&mut Row)>(mut row: Row, change: C) -> Row
+        requires { C.IsAlwaysCallable change }
+    {
+        change(&mut row);
         row
     }
 
@@ -268,39 +252,47 @@ mod tests {
     #[test]
     fn shifts_across_words(rt: HostRuntime) {
         let row = Row::none().with(0).with(63);
-        assert!(rt; shifted(row, 1) == Row::none().with(1).with(64));
-        assert!(rt; shifted(row, 64) == Row::none().with(64).with(127));
-        assert!(rt; shifted(row, 1023) == Row::none().with(1023));
-        assert!(rt; shifted(row, 1024).is_none());
+        assert!(rt; after(row, |r| r.shift(1)) == Row::none().with(1).with(64));
+        assert!(rt; after(row, |r| r.shift(64)) == Row::none().with(64).with(127));
+        assert!(rt; after(row, |r| r.shift(1023)) == Row::none().with(1023));
+        assert!(rt; after(row, |r| r.shift(1024)).is_none());
     }
 
     // Both ends of the range of distances count.
     #[test]
     fn spreads_from_the_least_to_the_most(rt: HostRuntime) {
         let row = Row::none().with(63);
-        assert!(rt; spread(row, 0, 1) == row.with(64));
-        assert!(rt; spread(row, 1, 960) == up_to(spread(row, 1, 1024), 1023));
-        assert!(rt; !spread(row, 1, 959).has(1023) && spread(row, 1, 960).has(1023));
-        assert!(rt; spread(row, 1, 0).is_none() && spread(row, 961, 1024).is_none());
+        assert!(rt; after(row, |r| r.widen(0, 1)) == row.with(64));
+        assert!(rt;
+            after(row, |r| r.widen(1, 960))
+                == after(after(row, |r| r.widen(1, 1024)), |r| r.cut(1023))
+        );
+        assert!(rt;
+            !after(row, |r| r.widen(1, 959)).has(1023) && after(row, |r| r.widen(1, 960)).has(1023)
+        );
+        assert!(rt;
+            after(row, |r| r.widen(1, 0)).is_none() && after(row, |r| r.widen(961, 1024)).is_none()
+        );
     }
 
     // The last offset stays.
     #[test]
     fn cuts_after_the_last(rt: HostRuntime) {
-        let row = spread(Row::none().with(0), 0, 1023);
+        let first = Row::none().with(0);
+        let row = after(first, |r| r.widen(0, 1023));
         for last in [0, 63, 64, 1023] {
-            assert!(rt; up_to(row, last) == spread(Row::none().with(0), 0, last));
+            assert!(rt; after(row, |r| r.cut(last)) == after(first, |r| r.widen(0, last)));
         }
-        assert!(rt; up_to(row, 1024) == row);
+        assert!(rt; after(row, |r| r.cut(1024)) == row);
     }
 
     // Only the members for which the answer is no are left out.
     #[test]
     fn keeps_what_is_answered_yes(rt: HostRuntime) {
         let row = Row::none().with(0).with(63).with(64).with(1023);
-        assert!(rt; kept(row, &Other { than: 1 }) == row);
+        assert!(rt; after(row, |r| r.keep(&Other { than: 1 })) == row);
         for k in [0, 63, 64, 1023] {
-            let left = kept(row, &Other { than: k });
+            let left = after(row, |r| r.keep(&Other { than: k }));
             assert!(rt; !left.has(k) && left.with(k) == row);
         }
     }

@@ -1,19 +1,9 @@
 -- What stands at a place of a list that is reversed, mapped or cut.
-use Rattle.std.proofs.Common.{◌≡◌, ℕ, zero, suc, ◌+◌, ◌-◌, ◌<◌, ◌≤◌, List, [], ◌∷◌, reverse, length, Some, None, Option, sym, refl, ap, ◌∙◌, add-zero, zero-add, arith, Bor}
-use lib.ListN.{length-reverse}
+use Rattle.std.proofs.Common.{◌≡◌, ℕ, zero, suc, ◌+◌, ◌≤◌, List, [], ◌∷◌, length, Some, None, Option, sym, refl, ap, ◌∙◌, add-zero, zero-add, arith, Bor}
 use Rattle.std.specs.List.{slice_get, cons_option, filter_map, range_with_len}
 use Rattle.std.specs.Option.{option_map}
 use Rattle.std.specs.Slice.{IsGetResult}
-use Rattle.std.proofs.lemmas.List.{get_or-reverse}
 use Rattle.std.proofs.lemmas.Option.{slice_get-get_or, slice_get_past}
-
--- a place of the reversed list, counted from the end
-pub nth_reverse : {X : Type 0} (xs : List X) (k : ℕ) → k < length xs → slice_get (reverse xs) k ≡ slice_get xs (length xs - 1 - k)
-nth_reverse [] k h = absurd (omega arith)
-nth_reverse (x ∷ xs) k h =
-    let l = x ∷ xs in
-    let same : length (reverse l) ≡ length l = length-reverse l in
-    slice_get-get_or (reverse l) k x (omega arith) ∙ ap Some (get_or-reverse l k x h) ∙ sym (slice_get-get_or l (length l - 1 - k) x (omega arith))
 
 -- what a slice lends at an index, as the element or none
 pub nth_item : {X : Type 0} (xs : List X) (i : ℕ) (r : Option (Bor X)) → IsGetResult xs i i r → option_map (λ x. x.now) r ≡ slice_get xs i

@@ -149,15 +149,18 @@ bare_place (f ∷ fs) = if some is_literal f.body then bare_place fs else Some (
 
 -- Compiled numbers. A sequence from the back is compiled mirrored, so its fragments are numbered from the back.
 
+-- the items from the last to the first, each mirrored, with their places
 abbrev pub mirrored_placed : List Placed → List Placed
 mirrored_placed [] = []
 mirrored_placed (q ∷ qs) = mirrored_placed qs ++ (record { place = q.place; item = mirrored_item q.item } ∷ [])
 
+-- the items as they are compiled: mirrored where the sequence is looked for from the back
 abbrev pub oriented : Reference → List Placed → List Placed
 oriented Front qs = qs
 oriented Back qs = mirrored_placed qs
 oriented Anywhere qs = qs
 
+-- the items without their places
 abbrev pub bodies : List Placed → List Item
 bodies [] = []
 bodies (q ∷ qs) = q.item ∷ bodies qs

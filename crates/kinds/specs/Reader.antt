@@ -150,8 +150,11 @@ module _ {E : Type 0} (a : Alphabet E) where
 
 -- The theorems: the reader reads exactly the texts of the grammar, each in one way, and refuses every other text at the
 -- longest prefix that begins some text.
+
+-- the reader reads a text as some items exactly where the grammar derives the text from them
 abbrev pub ReadsExactly : {E : Type 0} → Alphabet E → Type 0
 ReadsExactly a = (t : List ℕ) (qs : List Placed) → (items_of a t ≡ Ok qs → Text a qs t) × (Text a qs t → items_of a t ≡ Ok qs)
 
+-- the place of a refusal is the length of the longest prefix that begins some text
 abbrev pub RefusesAtLongest : {E : Type 0} → Alphabet E → Type 0
 RefusesAtLongest a = (t : List ℕ) (n : ℕ) → items_of a t ≡ Err n → Longest a t n

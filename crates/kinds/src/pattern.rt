@@ -8,7 +8,7 @@ pub enum Reference {
     Anywhere,
 }
 
-// A reference with the least and the greatest offset from it. Where a sequence may stand anywhere they count for nothing.
+// A reference with the least and the greatest offset from it. Where a sequence may stand anywhere, no place is bounded by them.
 #[derive(Clone, Copy, PartialEq, Eq, Debug)]
 pub struct Offsets {
     pub reference: Reference,

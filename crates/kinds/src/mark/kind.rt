@@ -68,10 +68,7 @@ impl Kind for Mark {
     }
 
     fn named(first: u8, second: u8) -> Option<Mark> {
-        if second < b'0' {
-            return None;
-        }
-        let band = Band::try_from(second - b'0').ok()?;
+        let band = Band::try_from(second.checked_sub(b'0')?).ok()?;
         match first {
             b'U' if band.digit == 0 => Some(Mark::Unread),
             b'S' => Some(Mark::Single(band)),

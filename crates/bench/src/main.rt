@@ -6,7 +6,7 @@ use kinds::backward::Backward;
 use kinds::byte::Byte;
 use kinds::held::Held;
 use kinds::pattern::{Offsets, Reference};
-use kinds::reading::Reading;
+use kinds::reading::{Order, Reading};
 use std::process::ExitCode;
 use std::{env, fs, io};
 
@@ -16,7 +16,7 @@ mod request;
 
 use complaint::Complaint;
 use measure::measured;
-use request::{Order, Request, request_of};
+use request::{Request, request_of};
 
 // The text may stand at any place.
 const ANYWHERE: Offsets = Offsets {

@@ -1,14 +1,9 @@
 // What the words of a call ask for.
 use crate::complaint::Complaint;
+use kinds::reading::Order;
 
 // How often a search is run where no word says it.
 const RUNS: u32 = 5;
-
-#[derive(Clone, Copy)]
-pub enum Order {
-    Forward,
-    Backward,
-}
 
 // The file's bytes are searched for the text, in an order, a number of times.
 #[derive(Clone, Copy)]

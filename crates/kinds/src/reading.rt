@@ -6,6 +6,13 @@ ghost use Rattle.std.specs.List.{slice_get};
 use crate::kind::Kind;
 use std::alloc::{AllocError, Global};
 
+// Which way a reading is gone over.
+#[derive(Clone, Copy, PartialEq, Eq, Debug)]
+pub enum Order {
+    Forward,
+    Backward,
+}
+
 pub trait Reading {
     type Element: Kind;
 

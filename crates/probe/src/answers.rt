@@ -8,15 +8,8 @@ use kinds::held::Held;
 use kinds::kind::Kind;
 use kinds::mark::Mark;
 use kinds::marks::Marks;
-use kinds::reading::{Reading, to_vec};
+use kinds::reading::{Order, Reading, to_vec};
 use std::alloc::{AllocError, Global};
-
-// Which way a reading goes over its elements.
-#[derive(Clone, Copy)]
-enum Order {
-    Forward,
-    Backward,
-}
 
 // A command over elements of some kind, with its words.
 #[derive(Clone, Copy)]

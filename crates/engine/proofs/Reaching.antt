@@ -1,23 +1,23 @@
 -- How rows of offsets follow from rows: one step of an item.
-use Rattle.std.proofs.Common.{◌≡◌, ℕ, zero, suc, ◌+◌, ◌-◌, ◌<◌, ◌≤◌, Bool, true, false, not, ◌&&◌, ◌||◌, eqb, ltb, leb, List, [], ◌∷◌, ◌++◌, length, take, drop, vec_items, Some, None, MatchOption, Option, sym, refl, ap, ◌∙◌, subst, ⊎_elim, append_assoc, append-nil, arith}
+use Rattle.std.proofs.Common.{◌≡◌, ℕ, zero, suc, ◌+◌, ◌-◌, ◌<◌, ◌≤◌, ◌⊎◌, inl, inr, Bool, true, false, not, ◌&&◌, ◌||◌, eqb, ltb, leb, List, [], ◌∷◌, ◌++◌, length, take, drop, vec_items, Some, None, Decides, MatchOption, Option, sym, refl, ap, ◌∙◌, subst, ⊎_elim, append_assoc, append-nil, arith}
 use Rattle.std.specs.List.{slice_get}
 use Rattle.std.specs.Option.{option_eq}
 use Rattle.std.proofs.lemmas.Bool.Decides.{nat_tests, same_from_decides}
-use Rattle.std.proofs.lemmas.Bool.{and_from, and_parts, and_right, both_ways, le-leb, leb-true, lt-ltb, ltb-true, eq-eqb, eqb-true, or_cases, or_left, or_right}
+use Rattle.std.proofs.lemmas.Bool.{and_from, and_parts, and_right, both_ways, cases_eq, cases_lt, le-leb, leb-true, lt-ltb, ltb-true, eq-eqb, eqb-true, or_cases, or_left, or_right}
 use Rattle.kinds.specs.declared.pattern.Direction.TheVariants.{FirstOn}
 use Rattle.kinds.specs.Patterns.{up_to, Item, literal, any, group, gap, range, other, matches, among, between, same, at_most}
 use Rattle.kinds.specs.declared.pattern.Direction.{Direction}
 use Rattle.kinds.specs.Search.{stretch, reaches}
 use Rattle.kinds.proofs.Anchors.{reaches_none, reaches_more}
 use Rattle.kinds.proofs.Searches.{length_stretch}
-use Rattle.rows.specs.Rows.{member, moved, some_distance}
+use Rattle.rows.specs.Rows.{member, moved, some_distance, FirstFrom, NoneFrom}
 use Rattle.rows.specs.declared.Row.{Row}
 use Rattle.rows.proofs.Distances.{reached, from_reached, one_distance}
 use Rattle.kinds.specs.Fragments.{bodies}
 use Rattle.engine.specs.Finding.{Reached, part_of}
 use Rattle.engine.specs.Reading.{held}
 use Rattle.engine.specs.Stored.{item_of, items}
-use Rattle.engine.specs.Reaching.{matches_at, Stepped}
+use Rattle.engine.specs.Reaching.{matches_at, Led, Stepped}
 use Rattle.engine.specs.declared.part.PlacedPart.{PlacedPart}
 use Rattle.engine.specs.declared.pattern.Pattern.{Pattern}
 use Rattle.engine.specs.declared.run.Run.{Run}
@@ -150,6 +150,91 @@ kept_step item n row asked on xs fixed keeps moves j = (
       ∙ and_from (member row (j - n)) (matches_at item n xs (j - n)) (subst (λ k. member row k ≡ true) at led.held)
       (and_from (leb (j - n + n) (length xs)) (matches item (stretch xs (j - n) (j - n + n))) (le-leb (j - n + n) (length xs) (omega arith)) match))),
 )
+
+-- Going through the members of a row.
+
+-- the members of a row are the places that an item leads to from those members of another that stand before `start`
+abbrev pub Before : Item → Row → List ℕ → Row → ℕ → Type 0
+Before item row xs on start = (j : ℕ) → Decides (member on j) ((led : Led item row xs j) × (led.origin < start))
+
+-- at the start there are none
+pub before_none : (item : Item) (row : Row) (xs : List ℕ) (on : Row) → ((j : ℕ) → member on j ≡ false) → Before item row xs on 0
+before_none item row xs on none j = (λ e. absurd (both_ways (member on j) (none j) e), λ h. absurd (omega (arith, h.1)))
+
+-- where no member is left, all have been gone through
+pub before_all : (item : Item) (row : Row) (xs : List ℕ) (on : Row) (start : ℕ) → NoneFrom row start → Before item row xs on start → Stepped item row xs on
+unfolding NoneFrom
+before_all item row xs on start none b j = (
+  λ e. ((b j).0 e).0,
+  λ led. ⊎_elim (λ l. (b j).1 (led, l)) (λ l. absurd (both_ways (member row led.origin) (none led.origin l) led.held)) (cases_lt led.origin start),
+)
+
+-- the next member of a row, and an item that matches only lists of n codes
+module _ (item : Item) (row : Row) (xs : List ℕ) (on : Row) (n start k : ℕ) (fixed : (ys : List ℕ) → matches item ys ≡ true → length ys ≡ n)
+    (first : FirstFrom row start k) (b : Before item row xs on start) where
+  -- where an item leads from a member up to the next one
+  origins : (j : ℕ) (led : Led item row xs j) → led.origin < k + 1 → (led.origin < start) ⊎ (led.origin ≡ k)
+  origins j led l =
+      ⊎_elim inl
+      (λ past. ⊎_elim inr (λ apart. absurd (both_ways (member row led.origin) (first.before led.origin past (omega arith)) led.held)) (cases_eq led.origin k))
+      (cases_lt led.origin start)
+
+  -- from the next member it leads on by n
+  on_by : (j : ℕ) (led : Led item row xs j) → led.origin ≡ k → j ≡ k + n
+  on_by j led e =
+      let long = length_stretch xs led.origin j led.inside in
+      let size = fixed (stretch xs led.origin j) led.matched in
+      let ordered = led.ordered in
+      omega arith
+
+  -- the item matches at the next member: one place more
+  pub before_with : (more : Row) → (leb (k + n) (length xs) && matches item (stretch xs k (k + n))) ≡ true
+      → ((j : ℕ) → member more j ≡ (member on j || (ltb (k + n) 1024 && eqb j (k + n)))) → Before item row xs more (k + 1)
+  before_with more fits is j = (
+    λ e.
+        ⊎_elim
+        (λ old. let p = (b j).0 old in let reached = first.reached in let l = p.1 in (p.0, omega arith))
+        (λ new.
+        let parts = and_parts (ltb (k + n) 1024) (eqb j (k + n)) new in
+        let small = ltb-true (k + n) 1024 parts.0 in
+        let here = eqb-true j (k + n) parts.1 in
+        let match = and_parts (leb (k + n) (length xs)) (matches item (stretch xs k (k + n))) fits in
+        let inside = leb-true (k + n) (length xs) match.0 in (
+          record {
+            origin = k;
+            held = first.held;
+            ordered = omega arith;
+            small = omega arith;
+            inside = omega arith;
+            matched = subst (λ m. matches item (stretch xs k m) ≡ true) (sym here) match.1;
+          },
+          omega arith,
+        ))
+        (or_cases (member on j) (ltb (k + n) 1024 && eqb j (k + n)) (sym (is j) ∙ e)),
+    λ h.
+        is j
+        ∙ ⊎_elim
+        (λ l. or_left (member on j) (ltb (k + n) 1024 && eqb j (k + n)) ((b j).1 (h.0, l)))
+        (λ e. let here = on_by j h.0 e in let small = h.0.small in or_right (member on j) (ltb (k + n) 1024 && eqb j (k + n)) (and_from (ltb (k + n) 1024) (eqb j (k + n)) (lt-ltb (k + n) 1024 (omega arith)) (eq-eqb j (k + n) here)))
+        (origins j h.0 h.1),
+  )
+
+  -- it does not: no place more
+  pub before_without : (leb (k + n) (length xs) && matches item (stretch xs k (k + n))) ≡ false → Before item row xs on (k + 1)
+  before_without misfit j = (
+    λ e. let p = (b j).0 e in let reached = first.reached in let l = p.1 in (p.0, omega arith),
+    λ h.
+        ⊎_elim
+        (λ l. (b j).1 (h.0, l))
+        (λ e.
+        let here = on_by j h.0 e in
+        let inside = h.0.inside in
+        absurd
+        (both_ways (leb (k + n) (length xs) && matches item (stretch xs k (k + n))) misfit
+        (and_from (leb (k + n) (length xs)) (matches item (stretch xs k (k + n))) (le-leb (k + n) (length xs) (omega arith))
+        (subst (λ m. matches item (stretch xs k m) ≡ true) here (subst (λ o. matches item (stretch xs o j) ≡ true) e h.0.matched)))))
+        (origins j h.0 h.1),
+  )
 
 -- items that match the same lists lead to the same places
 pub alike : (i k : Item) (row : Row) (xs : List ℕ) (on : Row) → ((ys : List ℕ) → matches i ys ≡ matches k ys) → Stepped i row xs on → Stepped k row xs on

@@ -1,6 +1,6 @@
 -- What holds of stored runs: where they lie, how long they are, and how two of them compare.
-use Rattle.std.proofs.Common.{◌≡◌, ℕ, ◌+◌, ◌<◌, Bool, true, not, ◌&&◌, eqb, List, reverse, length, get_or, sym, refl, ap, ◌∙◌, arith, length-drop, length-take}
-use Rattle.std.proofs.lemmas.List.{get_or-reverse, length-reverse, reverse-reverse}
+use Rattle.std.proofs.Common.{◌≡◌, ℕ, ◌+◌, Bool, true, not, ◌&&◌, eqb, List, reverse, length, sym, refl, ap, ◌∙◌, arith, length-drop, length-take}
+use Rattle.std.proofs.lemmas.List.{reverse-reverse}
 use Rattle.std.proofs.lemmas.Bool.{leb-true}
 use Rattle.std.proofs.lemmas.Bool.Decides.{same_from_decides, Decides-like, nat_tests}
 use Rattle.std.proofs.lemmas.Cmp.{same_from_slice_cmp}
@@ -13,7 +13,6 @@ use Rattle.kinds.specs.declared.pattern.Direction.{Direction}
 use Rattle.kinds.specs.declared.pattern.Direction.TheVariants.{FirstOn, LastOn}
 use Rattle.kinds.proofs.Decisions.{same_decides}
 use Rattle.engine.specs.Stored.{run_codes, run_within}
-use Rattle.engine.specs.Reaching.{position}
 use Rattle.engine.specs.declared.run.Run.{Run}
 
 -- Where runs and parts lie.
@@ -41,16 +40,6 @@ same_reversed xs ys =
 same_compared : (d : Direction) (xs ys : List ℕ) → same (compared d xs) (compared d ys) ≡ same xs ys
 same_compared FirstOn xs ys = refl
 same_compared LastOn xs ys = same_reversed xs ys
-
--- a list as it is compared is as long
-pub length_compared : (d : Direction) (xs : List ℕ) → length (compared d xs) ≡ length xs
-length_compared FirstOn xs = refl
-length_compared LastOn xs = length-reverse xs
-
--- the code that is compared after i codes
-pub compared_at : (d : Direction) (xs : List ℕ) (i : ℕ) → i < length xs → get_or (compared d xs) i 0 ≡ get_or xs (position d (length xs) i) 0
-compared_at FirstOn xs i h = refl
-compared_at LastOn xs i h = get_or-reverse xs i 0 h
 
 -- of runs of one length, the order is that of the lists as they are compared
 pub before_strictly : (d : Direction) (xs ys : List ℕ) → length xs ≡ length ys → strictly (compared d xs) (compared d ys) ≡ before d xs ys

@@ -46,7 +46,7 @@ LeastThrough a starts xs p None = (e : ℕ) → Anchored a.front a.codes a.back 
 LeastThrough a starts xs p (Some b) =
     Anchored a.front a.codes a.back starts.from starts.until xs p b × ((e : ℕ) → Spans a.back xs (p + length a.codes) e → b ≤ e)
 
--- the smaller of two numbers, where there are both
+-- the smaller of two ends, where there are both, by `min`, with which proofs calculate; contracts say `smaller_by nat_cmp`
 abbrev pub smaller_of : Option ℕ → Option ℕ → Option ℕ
 smaller_of (Some a) (Some b) = Some (min a b)
 smaller_of (Some a) None = Some a

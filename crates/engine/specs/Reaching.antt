@@ -1,9 +1,7 @@
 -- One step of an item over the codes of a reading, from the members of a row to those of another.
-use Rattle.std.specs.Prelude.{◌≡◌, ℕ, ◌+◌, ◌-◌, ◌<◌, ◌≤◌, Bool, true, ◌&&◌, List, length, Decides, nat_le}
+use Rattle.std.specs.Prelude.{◌≡◌, ℕ, ◌+◌, ◌<◌, ◌≤◌, Bool, true, ◌&&◌, List, length, Decides, nat_le}
 use Rattle.kinds.specs.Patterns.{Item, matches, range}
 use Rattle.kinds.specs.Search.{stretch}
-use Rattle.kinds.specs.declared.pattern.Direction.{Direction}
-use Rattle.kinds.specs.declared.pattern.Direction.TheVariants.{FirstOn, LastOn}
 use Rattle.rows.specs.Rows.{member}
 use Rattle.rows.specs.declared.Row.{Row}
 use Rattle.engine.specs.declared.reach.RunRange.{RunRange}
@@ -28,8 +26,3 @@ Stepped item row xs on = (j : ℕ) → Decides (member on j) (Led item row xs j)
 -- whether an item matches the n codes at an offset, where there are that many
 abbrev pub matches_at : Item → ℕ → List ℕ → ℕ → Bool
 matches_at item n xs at = nat_le (at + n) (length xs) && matches item (stretch xs at (at + n))
-
--- where a comparison of lists of n codes is after i codes
-abbrev pub position : Direction → ℕ → ℕ → ℕ
-position FirstOn n i = i
-position LastOn n i = n - 1 - i

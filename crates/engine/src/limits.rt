@@ -17,7 +17,7 @@ use kinds::pattern::Direction;
 const MOST_FRAGMENTS: usize = 8;
 
 // A fragment spans at most this many elements.
-const LONGEST_SPAN: usize = 1024;
+pub(crate) const LONGEST_SPAN: usize = 1024;
 
 // What is kept of items that follow each other: where they begin, how many elements they span, whether a literal is among
 // them, and whether a gap without upper end is.

@@ -3,10 +3,8 @@ ghost use Rattle.std.specs.Prelude.{◌≡◌, ℕ, ◌+◌, ◌<◌, ◌≤◌,
 ghost use Rattle.engine.specs.Finding.{Start};
 ghost use Rattle.kinds.specs.Patterns.{AtMost};
 
+use crate::limits::LONGEST_SPAN;
 use rows::Row;
-
-// The most elements that a fragment spans.
-const LONGEST: u64 = 1024;
 
 // The places from one on and, where there is a bound, not past it.
 #[derive(Clone, Copy)]
@@ -28,7 +26,7 @@ impl Starts {
         ensures { (start place : ℕ) → AtMost self.until start → place < start + 1024 → place ≤ 4294967295 → place ≤ result }
     {
         self.until.map_or(u32::MAX, |until| {
-            u32::try_from(until.saturating_add(LONGEST)).unwrap_or(u32::MAX)
+            u32::try_from(until.saturating_add(LONGEST_SPAN as u64)).unwrap_or(u32::MAX)
         })
     }
 

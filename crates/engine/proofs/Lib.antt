@@ -1,6 +1,7 @@
 pub mod Anchored
 pub mod Anchoring
 pub mod Assembling
+pub mod Beside
 pub mod Bodies
 pub mod Classes
 pub mod Comparing
@@ -21,7 +22,6 @@ pub mod Scans
 pub mod Searching
 pub mod Shifting
 pub mod Shows
-pub mod Sides
 pub mod Smallest
 pub mod Sounds
 pub mod Steps

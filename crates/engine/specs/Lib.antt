@@ -6,6 +6,7 @@ pub mod Examples
 pub mod Extents
 pub mod Faults
 pub mod Finding
+pub mod Lent
 pub mod Limits
 pub mod Parts
 pub mod Reaching
@@ -14,7 +15,6 @@ pub mod Scanning
 pub mod Refusals
 pub mod Searched
 pub mod Sequences
-pub mod Sides
 pub mod Smaller
 pub mod Stored
 pub mod Tallies

@@ -1,6 +1,6 @@
 // Readings of a lent reading: all of it, and each side of a place in it.
 ghost use Rattle.std.specs.Prelude.{reverse, take, drop};
-ghost use Rattle.engine.specs.Sides.{back_bounded, on_bounded};
+ghost use Rattle.engine.specs.Lent.{back_bounded, on_bounded};
 
 use kinds::reading::Reading;
 

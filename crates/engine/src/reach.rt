@@ -169,7 +169,7 @@ fn pass_group<R: Reading>(pattern: &Pattern, runs: &[Run], row: &mut Row, readin
 }
 
 // Moves a row on behind a part.
-fn pass<R: Reading>(pattern: &Pattern, part: Part, row: &mut Row, reading: &R)
+fn pass_part<R: Reading>(pattern: &Pattern, part: Part, row: &mut Row, reading: &R)
     requires { HasPart pattern.now part }
     ensures { Stepped (item_in pattern.now part) row.old (codes_of R.Element.alphabet (R.elements reading.now)) row.new }
 {
@@ -211,7 +211,7 @@ pub(crate) fn reach<R: Reading>(pattern: &Pattern, from: usize, to: usize, readi
         if row.is_none() {
             break;
         }
-        pass(pattern, placed.part, &mut row, reading);
+        pass_part(pattern, placed.part, &mut row, reading);
     }
     row
 }

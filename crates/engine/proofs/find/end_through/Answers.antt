@@ -6,7 +6,7 @@ use Rattle.engine.specs.Reading.{held}
 use Rattle.engine.specs.Stored.{placed_of}
 use Rattle.std.proofs.lemmas.Bool.{both_ways}
 use Rattle.engine.proofs.Finding.{on_some, anchor_inside, through_no_start, through_first}
-use Rattle.engine.proofs.Sides.{codes_before, codes_behind}
+use Rattle.engine.proofs.Beside.{codes_before, codes_behind}
 use Rattle.engine.proofs.find.end_through.Goals as goal
 
 pub returns-then-not-reached : goal.returns-then-not-reached

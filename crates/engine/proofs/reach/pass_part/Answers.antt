@@ -4,7 +4,7 @@ use Rattle.engine.specs.Codes.{codes_of}
 use Rattle.engine.specs.Stored.{item_of}
 use Rattle.engine.specs.Reaching.{Stepped, range_item}
 use Rattle.engine.proofs.Reaching.{alike, others}
-use Rattle.engine.proofs.reach.pass.Goals as goal
+use Rattle.engine.proofs.reach.pass_part.Goals as goal
 
 pub returns-in-Other : goal.returns-in-Other
 returns-in-Other g c =

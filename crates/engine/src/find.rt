@@ -91,6 +91,7 @@ pub(crate) fn least_end<R: Reading>(
     let mut place = starts.first_place(fragment.lead)?;
     let mut last = starts.last_place();
     let mut best = None;
+    // No `for`: where the anchor is looked for next is known only once the best end so far is.
     while let Some(fit) = next_fit_up_to(reading, codes, &fragment.shifts, place, last) {
         best = smaller(best, end_through(sequence, fragment, reading, fit, starts));
         last = last_useful(last, best, codes.len());

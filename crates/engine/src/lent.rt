@@ -27,7 +27,7 @@ impl<'r, R: Reading> Reading for Lent<'r, R> {
 }
 
 // A lent reading from a place back, the element before the place first.
-// It is no Backward over a reading up to the place: that tests each place once more, and made a search with gaps slower.
+// It is no Backward over a reading up to its place: that is one reading more, and tests each place twice.
 #[derive(Drop)]
 pub(crate) struct BackFrom<'r, R> {
     pub(crate) reading: &'r R,
@@ -46,12 +46,8 @@ impl<'r, R: Reading> Reading for BackFrom<'r, R> {
     }
 
     fn at(&self, place: u32) -> Option<R::Element> {
-        let len = self.len();
-        if place < len {
-            self.reading.at(len - 1 - place)
-        } else {
-            None
-        }
+        let last = self.len().checked_sub(1)?;
+        self.reading.at(last.checked_sub(place)?)
     }
 }
 

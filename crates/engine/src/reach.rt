@@ -25,6 +25,8 @@ use std::cmp::Ordering;
 // The largest offset.
 const LAST: usize = 1023;
 
+// The row and the reading stay apart: of a struct of both, each step would have to say too that the reading stays as it is.
+
 // Moves a row on behind a gap.
 fn pass_gap<R: Reading>(gap: Gap, row: &mut Row, reading: &R)
     ensures { Stepped (spaced gap.least gap.most) row.old (codes_of R.Element.alphabet (R.elements reading.now)) row.new }
@@ -198,8 +200,8 @@ fn pass_part<R: Reading>(pattern: &Pattern, part: Part, row: &mut Row, reading: 
     }
 }
 
-// The offsets that the parts from `from` to before `to` reach. It is not inlined: the scan for the next anchor, which calls it
-// seldom, is faster without it.
+// The offsets that the parts from `from` to before `to` reach. It is not inlined: `end_through` calls it within the search for
+// anchors, which is faster without it.
 #[inline(never)]
 pub(crate) fn reach<R: Reading>(pattern: &Pattern, from: usize, to: usize, reading: &R) -> Row
     requires ordered { from ≤ to }

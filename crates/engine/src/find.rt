@@ -29,6 +29,8 @@ fn is_bounded(pattern: &Pattern, fragment: &Fragment) -> bool
         && fragment.end <= pattern.parts.len()
 }
 
+// Sequence, reading and starts are told apart below: of one sequence each fragment starts elsewhere, in readings of its own.
+
 // The least end of a placement whose anchor stands at a place and that starts where it may, or none.
 fn end_through<R: Reading>(
     sequence: &Sequence,

@@ -4,7 +4,7 @@
 pub const INDICES: usize = 256;
 
 // Where the fragment's items stand in its pattern, its anchor, and the numbers of its search.
-#[derive(Drop)]
+#[derive(Clone, Drop)]
 pub struct Fragment {
     // The items from `first` to before `end`.
     pub first: usize,

@@ -102,10 +102,10 @@ impl<'t> Cursor<'t> {
         };
         let read = match class(expects, first) {
             Class::Mark(mark) => (Token::Mark(mark), behind),
-            Class::Question => match behind.past(b'?') {
-                Some(later) => (Token::Any, later),
-                None => return Err(behind.stop()),
-            },
+            Class::Question => {
+                let later = behind.require(b'?')?;
+                (Token::Any, later)
+            }
             Class::Star => (
                 Token::Gap(Gap {
                     least: 0,

@@ -5,8 +5,8 @@ ghost use Rattle.engine.specs.Stored.{all_parts_within, all_runs_within};
 use crate::part::PlacedPart;
 use crate::run::Run;
 
-// The items in order. The runs of groups are parts of one list of codes, and so are those of ranges. Three flat lists can
-// be reserved in full when a catalogue is made, so that no later call runs out of memory; lists in lists cannot.
+// The items in order. The runs of groups are parts of one list of codes, and so are those of ranges. Lists in lists would be no
+// plainer: each item would be allocated, copied and mirrored with lists of its own, where here three lists are.
 #[derive(Drop)]
 pub struct Pattern {
     pub(crate) codes: Vec<u16>,

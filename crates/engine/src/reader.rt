@@ -23,7 +23,7 @@ fn refusal(sequence: u8, place: usize) -> Failure
     })
 }
 
-// Reads a pattern text into its items.
+// Reads a pattern text into its items. The number of its sequence goes with it for a refusal alone.
 pub fn read<K: Kind>(heap: Global, sequence: u8, text: &[u8]) -> Result<Pattern, Failure>
     ensures { Read K.alphabet text.now sequence result }
 {

@@ -25,9 +25,9 @@ pub enum Step {
     Complete(Part),
 }
 
-// The functions below take the cases of a context apart, so each requires that its case lies within the pattern: a struct of
-// both, which says so once, would have to be matched again in each. The pattern is what they add to and the mark what they are
-// told: no value has both.
+// The functions below take the cases of a context apart, so those that read its numbers require that they lie within the pattern:
+// a struct of both, which says so once, would have to be matched again in each. The pattern is what they change and the mark what
+// was read: no value has both.
 
 // A punctuation between items: it opens a group or a range.
 fn between(pattern: &Pattern, mark: Punctuation) -> Step

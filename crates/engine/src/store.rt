@@ -2,7 +2,8 @@
 ghost use Rattle.std.specs.Prelude.{◌≡◌, ◌≤◌, true, [], length, drop, IfOk};
 ghost use Rattle.engine.specs.Contexts.{CodePushed, RunPushed, PartPushed};
 ghost use Rattle.engine.specs.Reading.{held};
-ghost use Rattle.engine.specs.Stored.{run_codes, run_within, part_within};
+ghost use Rattle.engine.specs.Parts.{HasPart, HasRun};
+ghost use Rattle.engine.specs.Stored.{run_codes};
 
 use crate::part::PlacedPart;
 use crate::pattern::Pattern;
@@ -38,7 +39,7 @@ impl Pattern {
         requires { start ≤ length self.now.codes.items }
         ensures codes { run_codes self.now.codes.items result ≡ drop start self.now.codes.items }
         ensures len { result.len ≡ length (drop start self.now.codes.items) }
-        ensures within { run_within self.now.codes.items result ≡ true }
+        ensures within { HasRun self.now result }
     {
         Run {
             start,
@@ -58,7 +59,7 @@ impl Pattern {
 
     // Puts one run behind the others.
     pub(crate) fn push_run(&mut self, run: Run) -> Result<(), AllocError>
-        requires { run_within self.old.codes.items run ≡ true }
+        requires { HasRun self.old run }
         ensures { IfOk result (λ _. RunPushed self.old run self.new) }
     {
         self.runs.push(run)?;
@@ -67,7 +68,7 @@ impl Pattern {
 
     // Puts one item behind the others.
     pub(crate) fn push_part(&mut self, part: PlacedPart) -> Result<(), AllocError>
-        requires { part_within self.old.codes.items self.old.runs.items part.part ≡ true }
+        requires { HasPart self.old part.part }
         ensures { IfOk result (λ _. PartPushed self.old part self.new) }
     {
         self.parts.push(part)?;

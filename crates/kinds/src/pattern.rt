@@ -1,4 +1,4 @@
-// The choices that a pattern leaves open, by name.
+// What a sequence says besides its pattern, and how a pattern compares runs.
 
 // Where a sequence is looked for: from the front of a reading, from its back, or anywhere.
 #[derive(Clone, Copy, PartialEq, Eq, Debug)]

@@ -45,6 +45,7 @@ impl Row {
     pub fn union(mut self, other: Row) -> Row
         ensures { (j : ℕ) → member result j ≡ (member self j || member other j) }
     {
+        // No `zip`: what a loop over it writes is known to no proof.
         for (i, word) in self.words.iter_mut().enumerate() {
             *word |= other.words[i];
         }

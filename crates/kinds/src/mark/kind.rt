@@ -31,7 +31,7 @@ impl From<Byte> for Mark {
 }
 
 impl Mark {
-    // The letter and the digit that name the mark. What is printed is made of it: no output could say that the pair names it.
+    // The letter and the digit that name the mark. It is no conversion: `pair` says what the two characters are.
     pub fn pair(self) -> (u8, u8)
         ensures written { result ≡ mark_pair self }
         ensures names_it { mark_alphabet.named result.0 result.1 ≡ Some self }

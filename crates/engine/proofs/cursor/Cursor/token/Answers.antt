@@ -11,7 +11,7 @@ use Rattle.engine.specs.declared.token.Token.{Token}
 use Rattle.engine.specs.declared.token.Token.TheVariants as token
 use Rattle.engine.proofs.Classes.{mark_reads, star_reads, question_reads, brace_reads, literal_reads}
 use Rattle.engine.proofs.cursor.Cursor.token.Goals as goal
-use Rattle.engine.proofs.cursor.Cursor.token.Goals.{in-Mark, in-Question+in-Some-past, in-Star, in-Brace+in_ok-gap-in-Brace, in-Pair+in-Some-second}
+use Rattle.engine.proofs.cursor.Cursor.token.Goals.{in-Mark, in-Question+in_ok-later-in-Question, in-Star, in-Brace+in_ok-gap-in-Brace, in-Pair+in-Some-second}
 
 pub returns : goal.returns
 returns g c =
@@ -28,9 +28,10 @@ returns g c =
           let reads = mark_reads a t place e here w.in-Mark.mark (is _ w.in-Mark.ensures) in
           let found : Found (token.Mark w.in-Mark.mark, c.in-Some.behind) = (first.2, (subst (ReadsToken a t e place (token.Mark w.in-Mark.mark)) (sym first.3) reads, tt)) in
           subst Found (sym w.read-is) found
-      | in-Question+in-Some-past w ↦
-          let again = w.in-Some-past.ensures in
-          let later = w.in-Some-past.later in
+      | in-Question+in_ok-later-in-Question w ↦
+          let behind = c.in-Some.behind in
+          let later = w.in_ok-later-in-Question.later in
+          let again : (standing behind.text.now behind.place 63 ≡ true) × (later.text.now ≡ behind.text.now) × (later.place ≡ behind.place + 1) = w.in_ok-later-in-Question.ensures in
           let reads = question_reads a t place e here (is _ w.in-Question.ensures) (subst₂ (λ l n. standing l n 63 ≡ true) first.2 first.3 again.0) in
           let on : place + 2 ≡ later.place = omega arith in
           let found : Found (token.Any, later) = (again.1 ∙ first.2, (subst (ReadsToken a t e place token.Any) on reads, tt)) in

@@ -3,8 +3,8 @@ use Rattle.std.proofs.Common.{◌≡◌, ℕ, zero, suc, ◌+◌, ◌-◌, ◌*�
 use Rattle.std.proofs.lemmas.Bool.{and_from, and_parts, and_right, both_ways, cases_Bool, cases_eq, cases_lt, le-leb, le-ltb, leb-true, lt-ltb, or_cases, or_left, or_right}
 use Rattle.std.proofs.lemmas.Bool.Decides.{Decides-like, Decides-or, same_from_decides}
 use Rattle.rows.specs.declared.Row.{Row}
-use Rattle.rows.specs.Rows.{member, moved, some_distance, NoneFrom}
-use Rattle.rows.proofs.Members.{member_past}
+use Rattle.rows.specs.Rows.{member, moved, some_distance}
+use Rattle.rows.proofs.Members.{member_past, member_unused, same_members}
 
 -- some distance from `least` to `most` leads from a member to j
 abbrev pub Reached : Row → ℕ → ℕ → ℕ → Type 0
@@ -149,9 +149,9 @@ moved_none row j = ⊎_elim below (λ h. member_past row j h ∙ sym (ap (λ t. 
         let e : j - 0 ≡ j = omega arith in
         sym (ap₂ (λ s t. s && (t && member row (j - 0))) (lt-ltb j 1024 h) (le-leb 0 j (omega arith)) ∙ ap (member row) e)
 
--- and so by each distance from 0 to 0
-pub smear_none : (row : Row) (j : ℕ) → member row j ≡ (ltb j 1024 && some_distance row 0 0 j)
-smear_none row = spread_one row row 0 (moved_none row)
+-- and so is a row of the same words by each distance from 0 to 0
+pub smear_none : (row same : Row) → same.words ≡ row.words → (j : ℕ) → member same j ≡ (ltb j 1024 && some_distance row 0 0 j)
+smear_none row same e j = same_members same row e j ∙ spread_one row row 0 (moved_none row) j
 
 -- a row moved on by 0 to `done`, joined with that moved on by `step` more
 pub smear_more : (row all more : Row) (done step : ℕ) → step ≤ done + 1
@@ -172,12 +172,12 @@ smear_more row all more done step h alls mores j =
         (distances_added row all 0 done step step (omega arith) (omega arith) alls i l ∙ ap (λ n. some_distance row n (done + step) i) (zero-add step))
         ∙ distances_joined row 0 done step (done + step) i (omega arith) h (omega arith)
 
--- nothing comes to stand past the words that have members and `reach`
-pub smear_past : (row all : Row) (n reach done step j : ℕ) → NoneFrom row (64 * n) → done + step ≤ reach
+-- nothing comes to stand past the words in use and `reach`
+pub smear_past : (row all : Row) (reach done step j : ℕ) → done + step ≤ reach
     → ((i : ℕ) → member all i ≡ (ltb i 1024 && some_distance row 0 done i))
-    → 64 * (n + reach / 64 + 1) ≤ j → moved all step j ≡ false
-unfolding moved NoneFrom
-smear_past row all n reach done step j none h alls far =
+    → 64 * (row.used + reach / 64 + 1) ≤ j → moved all step j ≡ false
+unfolding moved
+smear_past row all reach done step j h alls far =
     ⊎_elim (λ e. absurd (held e)) (λ e. e) (cases_Bool (leb step j && member all (j - step)))
   where
     held : (leb step j && member all (j - step)) ≡ true → ⊥
@@ -186,13 +186,13 @@ smear_past row all n reach done step j none h alls far =
         let on = leb-true step j parts.0 in
         let back = reached row 0 done (j - step) (and_parts (ltb (j - step) 1024) (some_distance row 0 done (j - step)) (sym (alls (j - step)) ∙ parts.1)).1 in
         let near = back.2 in
-        both_ways (member row (j - step - back.0)) (none (j - step - back.0) (omega arith)) back.4
+        both_ways (member row (j - step - back.0)) (member_unused row (j - step - back.0) (omega arith)) back.4
 
 -- so that only the words before `end` need be joined
-pub smear_short : (row all : Row) (n reach done step end : ℕ) → NoneFrom row (64 * n) → done + step ≤ reach
-    → ((i : ℕ) → member all i ≡ (ltb i 1024 && some_distance row 0 done i)) → end ≡ min (n + reach / 64 + 1) 16
+pub smear_short : (row all : Row) (reach done step end : ℕ) → done + step ≤ reach
+    → ((i : ℕ) → member all i ≡ (ltb i 1024 && some_distance row 0 done i)) → end ≡ min (row.used + reach / 64 + 1) 16
     → (j : ℕ) → (member all j || (ltb j (64 * end) && moved all step j)) ≡ (member all j || (ltb j 1024 && moved all step j))
-smear_short row all n reach done step end none h alls is j =
+smear_short row all reach done step end h alls is j =
     ap (λ t. member all j || t) (⊎_elim before (λ l. ⊎_elim (past l) beyond (cases_lt j 1024)) (cases_lt j (64 * end)))
   where
     Same : Type 0
@@ -203,7 +203,7 @@ smear_short row all n reach done step end none h alls is j =
 
     past : 64 * end ≤ j → j < 1024 → Same
     past l k =
-        let none_here = smear_past row all n reach done step j none h alls (omega arith) in
+        let none_here = smear_past row all reach done step j h alls (omega arith) in
         and_right (ltb j (64 * end)) (moved all step j) none_here ∙ sym (and_right (ltb j 1024) (moved all step j) none_here)
 
     beyond : 1024 ≤ j → Same

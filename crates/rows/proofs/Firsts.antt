@@ -4,8 +4,9 @@ use lib.Count.{count_trailing_zeros}
 use lib.Pow.{shr_le}
 use Rattle.std.proofs.lemmas.Bool.{both_ways, cases_lt, false≢true, true≢false}
 use Rattle.rows.specs.declared.Row.{Row}
-use Rattle.rows.specs.Rows.{bit, member, FirstFrom, NoneFrom}
-use Rattle.rows.proofs.Members.{member_bit, member_past}
+use Rattle.rows.specs.Rows.{member, FirstFrom, NoneFrom}
+use Rattle.rows.specs.Words.{bit}
+use Rattle.rows.proofs.Members.{member_bit, member_unused}
 use Rattle.rows.proofs.Words.{bit_of_zero, bit_past, bit_shr, trailing}
 
 -- b is the lowest bit from s on that is set in the word
@@ -90,12 +91,19 @@ none_between row from n below zero few zeros j h l = ⊎_elim own behind (cases_
         member_bit row j (omega arith)
         ∙ ap (λ w. bit w (j % 64)) (ap (λ i. get_or row.words i 0) (sym at) ∙ zeros (j / 64 - (from / 64 + 1)) (omega arith)) ∙ bit_of_zero (j % 64)
 
--- no member stands from `from` on, where all words behind are 0
-pub none_behind : (row : Row) (from : ℕ) → from < 1024 → get_or row.words (from / 64) 0 / 2 ^ (from % 64) ≡ 0
-    → ((k : ℕ) → k < 16 - (from / 64 + 1) → get_or row.words (from / 64 + 1 + k) 0 ≡ 0) → NoneFrom row from
+-- no member stands from `from` on, where all words in use behind are 0
+pub none_behind : (row : Row) (from : ℕ) → from / 64 < row.used → get_or row.words (from / 64) 0 / 2 ^ (from % 64) ≡ 0
+    → ((k : ℕ) → k < row.used - (from / 64 + 1) → get_or row.words (from / 64 + 1 + k) 0 ≡ 0) → NoneFrom row from
 unfolding NoneFrom
-none_behind row from below zero zeros j h =
-    ⊎_elim (λ l. none_between row from (16 - (from / 64 + 1)) below zero (omega arith) zeros j h (omega arith)) (member_past row j) (cases_lt j 1024)
+none_behind row from inside zero zeros j h =
+    let few = row.within in
+    ⊎_elim (λ l. none_between row from (row.used - (from / 64 + 1)) (omega arith) zero (omega arith) zeros j h (omega arith))
+    (member_unused row j) (cases_lt (j / 64) row.used)
+
+-- nor where the word of `from` is not in use
+pub none_unused : (row : Row) (from : ℕ) → row.used ≤ from / 64 → NoneFrom row from
+unfolding NoneFrom
+none_unused row from h j l = member_unused row j (omega arith)
 
 -- a search from 0 on says whether there is a member
 pub none_at_all : (row : Row) (o : Option ℕ) (r : Bool) → MatchOption o (NoneFrom row 0) (FirstFrom row 0) → is_some o ≡ not r
@@ -105,10 +113,3 @@ none_at_all row None true h e = λ j. h j (omega arith)
 none_at_all row None false h e = absurd (false≢true e)
 none_at_all row (Some k) true h e = absurd (true≢false e)
 none_at_all row (Some k) false h e = (k, h.held)
-
--- a row whose words from n on are 0 has no member from 64 * n on
-pub none_past : (row : Row) (n : ℕ) → ((k : ℕ) → n ≤ k → k < 16 → get_or row.words k 0 ≡ 0) → NoneFrom row (64 * n)
-unfolding NoneFrom
-none_past row n zero j h =
-    ⊎_elim (λ l. member_bit row j l ∙ ap (λ w. bit w (j % 64)) (zero (j / 64) (omega arith) (omega arith)) ∙ bit_of_zero (j % 64)) (member_past row j)
-    (cases_lt j 1024)

@@ -5,7 +5,8 @@ use Rattle.std.proofs.lemmas.List.{get_or-replicate, get_or-set_other, get_or-se
 use Rattle.std.proofs.lemmas.Bool.{both_ways, cases_eq, cases_lt, cases_order, le-leb, le-ltb, lt-leb, lt-ltb}
 use Rattle.std.proofs.lemmas.Bool.Decides.{nat_tests}
 use Rattle.rows.specs.declared.Row.{Row}
-use Rattle.rows.specs.Rows.{bit, member, moved}
+use Rattle.rows.specs.Rows.{member, moved}
+use Rattle.rows.specs.Words.{bit}
 use Rattle.rows.proofs.Words.{bit_cut, bit_of_zero, bit_of_or, bit_single}
 
 -- no offset from 1,024 on is a member
@@ -31,6 +32,16 @@ by_words_below row f below =
     by_words row (λ j. ltb j 1024 && f j) (λ j h. below j h ∙ ap (λ t. t && f j) (sym (lt-ltb j 1024 h)))
     (λ j h. ap (λ t. t && f j) (le-ltb j 1024 h))
 
+-- rows with the same words have the same members
+pub same_members : (a b : Row) → a.words ≡ b.words → (j : ℕ) → member a j ≡ member b j
+unfolding member
+same_members a b e j = ap (λ words. ltb j 1024 && bit (get_or words (j / 64) 0) (j % 64)) e
+
+-- no member falls in a word that is not in use
+pub member_unused : (row : Row) (j : ℕ) → row.used ≤ j / 64 → member row j ≡ false
+member_unused row j h =
+    ⊎_elim (λ l. member_bit row j l ∙ ap (λ w. bit w (j % 64)) (row.past (j / 64) h) ∙ bit_of_zero (j % 64)) (member_past row j) (cases_lt j 1024)
+
 -- no bit of a row of 16 words that are 0 is set
 no_bits : (j : ℕ) → j < 1024 → bit (get_or (replicate 16 0) (j / 64) 0) (j % 64) ≡ false
 no_bits j h = ap (λ w. bit w (j % 64)) (get_or-replicate 16 (j / 64) 0 0 (omega arith)) ∙ bit_of_zero (j % 64)
@@ -45,9 +56,10 @@ bit_after_set words i word j x h same other =
     (λ ne. ap (λ w. bit w (j % 64)) (get_or-set_other words i (j / 64) word 0 ne) ∙ other ne) (cases_eq (j / 64) i)
 
 -- one bit more in the word that k falls in
-pub member_with : (row : Row) (k : ℕ) → length row.words ≡ 16 → k < 1024
-    → (j : ℕ) → member (record { words = set row.words (k / 64) (bit_or (get_or row.words (k / 64) 0) ((1 * 2 ^ (k % 64)) % 2 ^ 64)) }) j ≡ (member row j || (ltb k 1024 && eqb j k))
-member_with row k len h = by_words (record { words = set row.words (k / 64) (bit_or old one) }) more below past
+pub member_with : (row with : Row) (k : ℕ) → length row.words ≡ 16 → k < 1024
+    → with.words ≡ set row.words (k / 64) (bit_or (get_or row.words (k / 64) 0) ((1 * 2 ^ (k % 64)) % 2 ^ 64))
+    → (j : ℕ) → member with j ≡ (member row j || (ltb k 1024 && eqb j k))
+member_with row with k len h written = by_words with more (λ j l. ap (λ words. bit (get_or words (j / 64) 0) (j % 64)) written ∙ below j l) past
   where
     old : ℕ
     old = get_or row.words (k / 64) 0
@@ -74,8 +86,9 @@ member_with row k len h = by_words (record { words = set row.words (k / 64) (bit
     below j l = bit_after_set row.words (k / 64) (bit_or old one) j (more j) (omega arith) (same j l) (other j l)
 
 -- a row whose words are all 0 has no member
-pub member_empty : (j : ℕ) → member (record { words = replicate 16 0 }) j ≡ false
-member_empty = by_words (record { words = replicate 16 0 }) (λ j. false) no_bits (λ j l. refl)
+pub member_empty : (row : Row) → row.words ≡ replicate 16 0 → (j : ℕ) → member row j ≡ false
+member_empty row e =
+    by_words row (λ j. false) (λ j l. ap (λ words. bit (get_or words (j / 64) 0) (j % 64)) e ∙ no_bits j l) (λ j l. refl)
 
 -- A word of a row moved on: `high` is word `from`, which it comes from, and `low` the word below that, or 0 where there is none.
 pub moved_word : (row : Row) (by j from low high word : ℕ) → j < 1024 → by / 64 + from ≡ j / 64 → high ≡ get_or row.words from 0
@@ -121,7 +134,7 @@ moved_short row by j h = ap (λ t. t && member row (j - by)) (lt-leb by j h)
 -- a row cut in the word that `last` falls in, with 0 in the words above
 pub member_cut : (row cut : Row) (last : ℕ) → last < 1024 → ((k : ℕ) → k < last / 64 → get_or cut.words k 0 ≡ get_or row.words k 0)
     → get_or cut.words (last / 64) 0 ≡ bit_and (get_or row.words (last / 64) 0) ((2 ^ 64 - 1) / 2 ^ (63 - last % 64))
-    → ((k : ℕ) → last / 64 < k → k < 16 → get_or cut.words k 0 ≡ 0) → (j : ℕ) → member cut j ≡ (leb j last && member row j)
+    → ((k : ℕ) → last / 64 < k → get_or cut.words k 0 ≡ 0) → (j : ℕ) → member cut j ≡ (leb j last && member row j)
 member_cut row cut last h lower edge upper = by_words cut (λ j. leb j last && member row j) below past
   where
     past : (j : ℕ) → 1024 ≤ j → (leb j last && member row j) ≡ false
@@ -138,15 +151,15 @@ member_cut row cut last h lower edge upper = by_words cut (λ j. leb j last && m
         (⊎_elim
         (λ s. ap (λ w. bit w (j % 64)) (lower (j / 64) s) ∙ sym m ∙ ap (λ t. t && member row j) (sym (le-leb j last (omega arith))))
         (λ s.
-        ap (λ w. bit w (j % 64)) (upper (j / 64) s (omega arith)) ∙ bit_of_zero (j % 64)
+        ap (λ w. bit w (j % 64)) (upper (j / 64) s) ∙ bit_of_zero (j % 64)
         ∙ ap (λ t. t && member row j) (sym (lt-leb j last (omega arith)))))
         (cases_order (j / 64) (last / 64))
 
--- every member is at most 1,023
-pub member_all : (row : Row) (last j : ℕ) → 1024 ≤ last → member row j ≡ (leb j last && member row j)
+-- every member is at most an offset past the words in use
+pub member_all : (row : Row) (last j : ℕ) → row.used ≤ last / 64 → member row j ≡ (leb j last && member row j)
 member_all row last j h =
-    ⊎_elim (λ l. ap (λ t. t && member row j) (sym (le-leb j last (omega arith)))) (λ l. let m = member_past row j l in grind (arith, nat_tests))
-    (cases_lt j 1024)
+    ⊎_elim (λ l. ap (λ t. t && member row j) (sym (le-leb j last (omega arith)))) (λ l. let m = member_unused row j l in grind (arith, nat_tests))
+    (cases_lt (j / 64) row.used)
 
 -- a member is below 1,024
 pub member_below : (row : Row) (k : ℕ) → member row k ≡ true → k < 1024

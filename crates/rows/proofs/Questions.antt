@@ -4,7 +4,7 @@ use lib.Bits.{bit_and, bit_or}
 use lib.Count.{count_leading_zeros, count_trailing_zeros}
 use Rattle.std.proofs.lemmas.Bool.{and_right, both_ways, cases_Bool, cases_lt, le-ltb, lt-ltb}
 use Rattle.std.proofs.lemmas.Bool.Decides.{nat_tests}
-use Rattle.rows.specs.Rows.{bit}
+use Rattle.rows.specs.Words.{bit}
 use Rattle.rows.proofs.Words.{bit_of_and, bit_of_zero, bit_of_or, bit_shl_word, leading_above, trailing}
 
 -- the bits of a number are the answers from a bit up to `top`

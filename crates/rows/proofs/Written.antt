@@ -5,8 +5,9 @@ use Rattle.std.proofs.lemmas.List.{get_or-set_other}
 use Rattle.std.proofs.lemmas.Bool.{and_right, cases_lt, le-ltb, lt-ltb}
 use Rattle.std.proofs.lemmas.Bool.Decides.{nat_tests}
 use Rattle.rows.specs.declared.Row.{Row}
-use Rattle.rows.specs.Rows.{bit, member, moved, NoneFrom}
-use Rattle.rows.proofs.Members.{bit_after_set, by_words, member_bit, member_past}
+use Rattle.rows.specs.Rows.{member, moved}
+use Rattle.rows.specs.Words.{bit}
+use Rattle.rows.proofs.Members.{bit_after_set, by_words, member_bit, member_past, member_unused}
 use Rattle.rows.proofs.Words.{bit_of_or, bit_of_zero}
 
 -- the words from `low` up to `high` have the bits that `f` says, and all others are those of the row `old`
@@ -49,10 +50,10 @@ unfolding moved member
 moved_same a b by j same =
     ap (λ w. leb by j && (ltb (j - by) 1024 && bit w ((j - by) % 64))) (same ((j - by) / 64) (omega arith))
 
--- nothing is moved further than the words that have members and the distance
-moved_past : (row : Row) (by j n : ℕ) → NoneFrom row (64 * n) → n + by / 64 + 1 ≤ j / 64 → moved row by j ≡ false
-unfolding moved NoneFrom
-moved_past row by j n none h = and_right (leb by j) (member row (j - by)) (none (j - by) (omega arith))
+-- nothing is moved further than the words in use and the distance
+moved_past : (row : Row) (by j : ℕ) → row.used + by / 64 + 1 ≤ j / 64 → moved row by j ≡ false
+unfolding moved
+moved_past row by j h = and_right (leb by j) (member row (j - by)) (member_unused row (j - by) (omega arith))
 
 -- the members of a row moved on by `by`
 abbrev pub shifts : Row → ℕ → ℕ → Bool
@@ -64,12 +65,11 @@ pub shift_word : {old : Row} (row : Row) {low high : ℕ} {f : ℕ → Bool} (i 
 shift_word {old = old} row i by word w h bits j e = bits j e ∙ moved_same row old by j (λ k l. w.below k (omega arith))
 
 -- a row whose words have been moved on
-pub shifted_all : {old : Row} (row : Row) {low end : ℕ} (by n : ℕ) → Written old row.words low end (shifts old by) → low ≤ 0
-    → end ≡ min (n + by / 64 + 1) 16 → NoneFrom old (64 * n) → (j : ℕ) → member row j ≡ shifts old by j
-unfolding NoneFrom
-shifted_all {old = old} row by n w first is none =
+pub shifted_all : {old : Row} (row : Row) {low end : ℕ} (by : ℕ) → Written old row.words low end (shifts old by) → low ≤ 0
+    → end ≡ min (old.used + by / 64 + 1) 16 → (j : ℕ) → member row j ≡ shifts old by j
+shifted_all {old = old} row by w first is =
     written_all row w first
-    (λ j h l. none j (omega arith) ∙ sym (and_right (ltb j 1024) (moved old by j) (moved_past old by j n none (omega arith))))
+    (λ j h l. member_unused old j (omega arith) ∙ sym (and_right (ltb j 1024) (moved old by j) (moved_past old by j (omega arith))))
     (λ j h. ap (λ t. t && moved old by j) (le-ltb j 1024 h))
 
 -- what joins a row that is moved on to the words before `end`
@@ -106,9 +106,10 @@ joint_word b {words = words} {i = i} w h j e =
     (ap (λ k. bit (get_or b.words k 0) (j % 64)) (sym e) ∙ sym (member_bit b j (omega arith)))
 
 -- a row whose words have all been joined
-pub joint_all : {a : Row} (b row : Row) {end : ℕ} → Written a row.words 0 end (joint a b) → 16 ≤ end → (j : ℕ) → member row j ≡ joint a b j
+pub joint_all : {a : Row} (b row : Row) {end : ℕ} → Written a row.words 0 end (joint a b) → b.used ≤ end → (j : ℕ) → member row j ≡ joint a b j
 joint_all {a = a} b row w all =
-    written_all row w (omega arith) (λ j h l. absurd (omega arith)) (λ j h. ap₂ ◌||◌ (member_past a j h) (member_past b j h))
+    written_all row w (omega arith) (λ j h l. let none = member_unused b j (omega arith) in grind (arith, nat_tests))
+    (λ j h. ap₂ ◌||◌ (member_past a j h) (member_past b j h))
 
 -- the members that a question is answered yes of
 abbrev pub chosen : (ℕ → Bool) → Row → ℕ → Bool
@@ -123,12 +124,25 @@ kept_more f {i = i} word w h inside bits =
     let at : 64 * i + j % 64 ≡ j = omega arith in
     bits (j % 64) ∙ ap₂ ◌&&◌ (bit_unwritten i j w h (inr (omega arith)) e) (ap f at))
 
--- a word that is 0 has no bit to ask about
-pub zero_chosen : (f : ℕ → Bool) (word i : ℕ) → word ≡ 0 → (b : ℕ) → bit word b ≡ (bit word b && f (64 * i + b))
-zero_chosen f word i z b = let none = ap (λ x. bit x b) z ∙ bit_of_zero b in none ∙ ap (λ t. t && f (64 * i + b)) (sym none)
+-- a word that is 0 has no bit to ask about, so it stays
+pub kept_zero : (f : ℕ → Bool) {old : Row} {words : List ℕ} {i : ℕ} → Written old words 0 i (chosen f old) → i < 16 → get_or words i 0 ≡ 0
+    → Written old words 0 (i + 1) (chosen f old)
+kept_zero f {old = old} {words = words} {i = i} w h zero =
+    record {
+      done = λ j l m. ⊎_elim (λ b. w.done j (omega arith) b) (λ b. here j (omega arith)) (cases_lt (j / 64) i);
+      below = λ k l. absurd (omega arith);
+      past = λ k l. w.past k (omega arith);
+    }
+  where
+    here : (j : ℕ) → j / 64 ≡ i → bit (get_or words (j / 64) 0) (j % 64) ≡ chosen f old j
+    here j e =
+        let none : bit (get_or words i 0) (j % 64) ≡ false = ap (λ x. bit x (j % 64)) zero ∙ bit_of_zero (j % 64) in
+        ap (λ k. bit (get_or words k 0) (j % 64)) e ∙ none
+        ∙ ap (λ t. t && f j) (sym none ∙ bit_unwritten i j w h (inr (omega arith)) e)
 
 -- a row of which all members have been asked
-pub kept_all : (f : ℕ → Bool) {old : Row} (row : Row) {end : ℕ} → Written old row.words 0 end (chosen f old) → 16 ≤ end
+pub kept_all : (f : ℕ → Bool) {old : Row} (row : Row) {end : ℕ} → Written old row.words 0 end (chosen f old) → old.used ≤ end
     → (j : ℕ) → member row j ≡ chosen f old j
 kept_all f {old = old} row w all =
-    written_all row w (omega arith) (λ j h l. absurd (omega arith)) (λ j h. ap (λ t. t && f j) (member_past old j h))
+    written_all row w (omega arith) (λ j h l. let none = member_unused old j (omega arith) in grind (arith, nat_tests))
+    (λ j h. ap (λ t. t && f j) (member_past old j h))

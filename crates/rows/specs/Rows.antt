@@ -1,10 +1,7 @@
 -- Sets of offsets below 1,024, as 16 words of 64 bits.
-use Rattle.std.specs.Prelude.{◌≡◌, ℕ, zero, suc, ◌-◌, ◌/◌, ◌%◌, ◌^◌, ◌<◌, ◌≤◌, Bool, true, false, ◌&&◌, ◌||◌, List, length, ◌==◌, nat_le, nat_lt, slice_index}
+use Rattle.std.specs.Prelude.{◌≡◌, ℕ, zero, suc, ◌-◌, ◌/◌, ◌%◌, ◌<◌, ◌≤◌, Bool, true, false, ◌&&◌, ◌||◌, nat_le, nat_lt, slice_index}
 use Rattle.rows.specs.declared.Row.{Row}
-
--- bit k of a number, the lowest being bit 0
-unfoldable pub bit : ℕ → ℕ → Bool
-bit w k = w / 2 ^ k % 2 == 1
+use Rattle.rows.specs.Words.{bit}
 
 -- whether k is a member of the row: bit k % 64 of its word k / 64, and never from 1,024 on
 unfoldable pub member : Row → ℕ → Bool
@@ -28,9 +25,3 @@ pub record FirstFrom (row : Row) (start k : ℕ) : Type 0 where
   pub held : member row k ≡ true
   pub reached : start ≤ k
   pub before : (j : ℕ) → start ≤ j → j < k → member row j ≡ false
-
--- word i is the first that is not 0
-pub record FirstUsed (words : List ℕ) (i : ℕ) : Type 0 where
-  pub within : i < length words
-  pub used : 0 < slice_index words i
-  pub before : (k : ℕ) → k < i → slice_index words k ≡ 0

@@ -2,7 +2,7 @@
 #![tactic(auto)]
 
 ghost use Rattle.std.specs.Prelude.{◌≡◌, ℕ, ◌+◌, ◌-◌, ◌*◌, ◌/◌, ◌%◌, ◌<◌, ◌≤◌, Bool, true, false, not, ◌&&◌, ◌||◌, if◌then◌else◌, MatchBool, MatchOption, ◌==◌, nat_le, nat_lt, slice_index, length};
-ghost use Rattle.rows.specs.Rows.{bit, member, moved, some_distance, FirstFrom, FirstUsed, NoneFrom};
+ghost use Rattle.rows.specs.Words.{bit, FirstUsed, ZeroFrom};
 
 // How many offsets there are.
 const WIDTH: usize = 1024;
@@ -10,18 +10,27 @@ const WIDTH: usize = 1024;
 // How many words hold them.
 const WORDS: usize = WIDTH / 64;
 
-// A set of offsets below 1,024: offset k is bit k % 64 of word k / 64.
-#[derive(Clone, Copy, PartialEq, Eq, Debug)]
+// A set of offsets below 1,024: offset k is bit k % 64 of word k / 64. The words from `used` on are 0, and no loop goes over
+// them.
+#[derive(Clone, Copy)]
 pub struct Row {
     pub words: [u64; WORDS],
+    used: usize,
+    ghost within: { used ≤ 16 },
+    ghost past: { ZeroFrom words used },
 }
 
 impl Row {
+    ghost use Rattle.rows.specs.Rows.{member, moved, some_distance, FirstFrom, NoneFrom};
+
     // The set with no member.
     pub fn none() -> Row
         ensures { (j : ℕ) → member result j ≡ false }
     {
-        Row { words: [0; WORDS] }
+        Row {
+            words: [0; WORDS],
+            used: 0,
+        }
     }
 
     // The set with the member k too, where k is below 1,024.
@@ -29,6 +38,7 @@ impl Row {
         ensures { (j : ℕ) → member result j ≡ (member self j || (nat_lt k 1024 && j == k)) }
     {
         if k < WIDTH {
+            self.used = self.used.max(k / 64 + 1);
             self.words[k / 64] |= 1 << (k % 64);
         }
         self
@@ -45,23 +55,29 @@ impl Row {
     pub fn union(mut self, other: Row) -> Row
         ensures { (j : ℕ) → member result j ≡ (member self j || member other j) }
     {
-        // No `zip`: what a loop over it writes is known to no proof.
-        for (i, word) in self.words.iter_mut().enumerate() {
-            *word |= other.words[i];
-        }
+        self.join(&other);
         self
     }
 
-    // How many words there are up to the last one that is not 0.
-    fn used(&self) -> usize
-        ensures count { result ≤ WORDS }
-        ensures last { 0 < result → 0 < slice_index self.now.words (result - 1) }
-        ensures past { NoneFrom self.now (64 * result) }
+    // Adds the members of the other.
+    fn join(&mut self, other: &Row)
+        ensures { (j : ℕ) → member self.new j ≡ (member self.old j || member other.now j) }
     {
-        self.words
+        self.used = self.used.max(other.used);
+        for i in 0..other.used {
+            self.words[i] |= other.words[i];
+        }
+    }
+
+    // Counts the words in use anew, up to the last one that is not 0.
+    fn trim(&mut self)
+        ensures words { self.new.words ≡ self.old.words }
+        ensures last { 0 < self.new.used → 0 < slice_index self.new.words (self.new.used - 1) }
+    {
+        self.used = self.words[..self.used]
             .iter()
             .rposition(|word| *word != 0)
-            .map_or(0, |last| last + 1)
+            .map_or(0, |last| last + 1);
     }
 
     // Word i of the row moved on by `by`.
@@ -80,18 +96,19 @@ impl Row {
     pub fn shift(&mut self, by: usize)
         ensures { (j : ℕ) → member self.new j ≡ (nat_lt j 1024 && moved self.old by j) }
     {
-        let end = (self.used() + by / 64 + 1).min(WORDS);
-        for i in (0..end).rev() {
+        self.used = (self.used + by / 64 + 1).min(WORDS);
+        for i in (0..self.used).rev() {
             self.words[i] = self.moved_word(i, by);
         }
+        self.trim();
     }
 
-    // Adds each member moved on by `by`, those that come to stand in the words before `end`.
-    fn join_moved(&mut self, end: usize, by: usize)
-        requires { end ≤ WORDS }
-        ensures { (j : ℕ) → member self.new j ≡ (member self.old j || (nat_lt j (64 * end) && moved self.old by j)) }
+    // Adds each member moved on by `by`, those that come to stand in the words in use.
+    fn join_moved(&mut self, by: usize)
+        ensures joined { (j : ℕ) → member self.new j ≡ (member self.old j || (nat_lt j (64 * self.old.used) && moved self.old by j)) }
+        ensures used { self.new.used ≡ self.old.used }
     {
-        for i in (0..end).rev() {
+        for i in (0..self.used).rev() {
             self.words[i] |= self.moved_word(i, by);
         }
     }
@@ -100,14 +117,15 @@ impl Row {
     fn smear(&mut self, reach: usize)
         ensures { (j : ℕ) → member self.new j ≡ (nat_lt j 1024 && some_distance self.old 0 reach j) }
     {
-        let end = (self.used() + reach / 64 + 1).min(WORDS);
+        self.used = (self.used + reach / 64 + 1).min(WORDS);
         let mut done = 0;
         // No `for`: the step grows from turn to turn, and a counted loop would join up to 1,023 times in place of 10.
         while done < reach {
             let step = (done + 1).min(reach - done);
-            self.join_moved(end, step);
+            self.join_moved(step);
             done += step;
         }
+        self.trim();
     }
 
     // Moves each member on by each distance from `least` to `most`.
@@ -128,21 +146,23 @@ impl Row {
     pub fn keep<Q: Question>(&mut self, question: &Q)
         ensures { (j : ℕ) → member self.new j ≡ (member self.old j && Q.asked question.now j) }
     {
-        for (i, word) in self.words.iter_mut().enumerate() {
-            if *word != 0 {
-                *word = answered(*word, 64 * i, question);
+        for i in 0..self.used {
+            if self.words[i] != 0 {
+                self.words[i] = answered(self.words[i], 64 * i, question);
             }
         }
+        self.trim();
     }
 
     // Leaves out the members past `last`.
     pub fn cut(&mut self, last: usize)
         ensures { (j : ℕ) → member self.new j ≡ (nat_le j last && member self.old j) }
     {
-        if last < WIDTH {
-            let edge = last / 64;
+        let edge = last / 64;
+        if edge < self.used {
             self.words[edge] &= u64::MAX >> (63 - last % 64);
-            self.words[edge + 1..].fill(0);
+            self.words[edge + 1..self.used].fill(0);
+            self.trim();
         }
     }
 
@@ -150,15 +170,15 @@ impl Row {
     pub fn first_from(&self, from: usize) -> Option<usize>
         ensures { MatchOption result (NoneFrom self.now from) (FirstFrom self.now from) }
     {
-        if from >= WIDTH {
+        let edge = from / 64;
+        if edge >= self.used {
             return None;
         }
-        let edge = from / 64;
         let word = self.words[edge] >> (from % 64);
         if word != 0 {
             return Some(from + word.trailing_zeros() as usize);
         }
-        let i = edge + 1 + first_used(&self.words[edge + 1..])?;
+        let i = edge + 1 + first_used(&self.words[edge + 1..self.used])?;
         Some(64 * i + self.words[i].trailing_zeros() as usize)
     }
 
@@ -236,6 +256,11 @@ mod tests {
         row
     }
 
+    // Whether two rows have the same members.
+    fn same(a: Row, b: Row) -> bool {
+        a.words == b.words
+    }
+
     // One member at each edge is found, and 1,024 is never one.
     #[test]
     fn holds_what_is_added(rt: HostRuntime) {
@@ -253,9 +278,9 @@ mod tests {
     #[test]
     fn shifts_across_words(rt: HostRuntime) {
         let row = Row::none().with(0).with(63);
-        assert!(rt; after(row, |r| r.shift(1)) == Row::none().with(1).with(64));
-        assert!(rt; after(row, |r| r.shift(64)) == Row::none().with(64).with(127));
-        assert!(rt; after(row, |r| r.shift(1023)) == Row::none().with(1023));
+        assert!(rt; same(after(row, |r| r.shift(1)), Row::none().with(1).with(64)));
+        assert!(rt; same(after(row, |r| r.shift(64)), Row::none().with(64).with(127)));
+        assert!(rt; same(after(row, |r| r.shift(1023)), Row::none().with(1023)));
         assert!(rt; after(row, |r| r.shift(1024)).is_none());
     }
 
@@ -263,11 +288,9 @@ mod tests {
     #[test]
     fn spreads_from_the_least_to_the_most(rt: HostRuntime) {
         let row = Row::none().with(63);
-        assert!(rt; after(row, |r| r.widen(0, 1)) == row.with(64));
-        assert!(rt;
-            after(row, |r| r.widen(1, 960))
-                == after(after(row, |r| r.widen(1, 1024)), |r| r.cut(1023))
-        );
+        assert!(rt; same(after(row, |r| r.widen(0, 1)), row.with(64)));
+        let cut = after(after(row, |r| r.widen(1, 1024)), |r| r.cut(1023));
+        assert!(rt; same(after(row, |r| r.widen(1, 960)), cut));
         assert!(rt;
             !after(row, |r| r.widen(1, 959)).has(1023) && after(row, |r| r.widen(1, 960)).has(1023)
         );
@@ -282,19 +305,24 @@ mod tests {
         let first = Row::none().with(0);
         let row = after(first, |r| r.widen(0, 1023));
         for last in [0, 63, 64, 1023] {
-            assert!(rt; after(row, |r| r.cut(last)) == after(first, |r| r.widen(0, last)));
+            assert!(rt;
+                same(
+                    after(row, |r| r.cut(last)),
+                    after(first, |r| r.widen(0, last))
+                )
+            );
         }
-        assert!(rt; after(row, |r| r.cut(1024)) == row);
+        assert!(rt; same(after(row, |r| r.cut(1024)), row));
     }
 
     // Only the members for which the answer is no are left out.
     #[test]
     fn keeps_what_is_answered_yes(rt: HostRuntime) {
         let row = Row::none().with(0).with(63).with(64).with(1023);
-        assert!(rt; after(row, |r| r.keep(&Other { than: 1 })) == row);
+        assert!(rt; same(after(row, |r| r.keep(&Other { than: 1 })), row));
         for k in [0, 63, 64, 1023] {
             let left = after(row, |r| r.keep(&Other { than: k }));
-            assert!(rt; !left.has(k) && left.with(k) == row);
+            assert!(rt; !left.has(k) && same(left.with(k), row));
         }
     }
 }

@@ -90,10 +90,14 @@ pub member_empty : (row : Row) → row.words ≡ replicate 16 0 → (j : ℕ) �
 member_empty row e =
     by_words row (λ j. false) (λ j l. ap (λ words. bit (get_or words (j / 64) 0) (j % 64)) e ∙ no_bits j l) (λ j l. refl)
 
+-- the bits of a word that `carried` gives, from the word below and its own
+abbrev pub Carried : ℕ → ℕ → ℕ → ℕ → Type 0
+Carried low high s word = (b : ℕ) → bit word b ≡ (ltb b 64 && cond (ltb b s) (bit low (64 - s + b)) (bit high (b - s)))
+
 -- A word of a row moved on: `high` is word `from`, which it comes from, and `low` the word below that, or 0 where there is none.
 pub moved_word : (row : Row) (by j from low high word : ℕ) → j < 1024 → by / 64 + from ≡ j / 64 → high ≡ get_or row.words from 0
     → (0 < from → low ≡ get_or row.words (from - 1) 0) → (from ≡ 0 → low ≡ 0)
-    → ((b : ℕ) → bit word b ≡ (ltb b 64 && cond (ltb b (by % 64)) (bit low (64 - by % 64 + b)) (bit high (b - by % 64))))
+    → Carried low high (by % 64) word
     → bit word (j % 64) ≡ moved row by j
 unfolding moved
 moved_word row by j from low high word h l top under none bits =
@@ -125,6 +129,21 @@ moved_word row by j from low high word h l top under none bits =
         let e : (j - by) / 64 ≡ from = omega arith in
         let m = at high (j % 64 - by % 64) (omega arith) (ap (λ i. get_or row.words i 0) e ∙ sym top) (omega arith) in
         grind (arith, nat_tests)
+
+-- a word of a row moved on, past the first that one is moved to: it comes from two words
+pub later_word : (row : Row) (by i word : ℕ) → by / 64 < i → i < 16
+    → Carried (get_or row.words (i - by / 64 - 1) 0) (get_or row.words (i - by / 64) 0) (by % 64) word
+    → (j : ℕ) → j / 64 ≡ i → bit word (j % 64) ≡ moved row by j
+later_word row by i word h few bits j e =
+    let from = i - by / 64 in
+    moved_word row by j from (get_or row.words (from - 1) 0) (get_or row.words from 0) word (omega arith) (omega arith) refl (λ k. refl)
+    (λ k. absurd (omega arith)) bits
+
+-- the first word that one is moved to comes from the row's first word alone
+pub first_word : (row : Row) (by word : ℕ) → by / 64 < 16 → Carried 0 (get_or row.words 0 0) (by % 64) word
+    → (j : ℕ) → j / 64 ≡ by / 64 → bit word (j % 64) ≡ moved row by j
+first_word row by word few bits j e =
+    moved_word row by j 0 0 (get_or row.words 0 0) word (omega arith) (omega arith) refl (λ k. absurd (omega arith)) (λ k. refl) bits
 
 -- nothing is moved to below the distance
 pub moved_short : (row : Row) (by j : ℕ) → j < by → moved row by j ≡ false

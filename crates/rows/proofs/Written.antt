@@ -1,5 +1,5 @@
 -- Words of a row written one after the other.
-use Rattle.std.proofs.Common.{◌≡◌, ℕ, ◌+◌, ◌-◌, ◌*◌, ◌/◌, ◌%◌, ◌<◌, ◌≤◌, min, max, Bool, false, ◌&&◌, ◌||◌, ltb, leb, ◌⊎◌, List, length, get_or, set, sym, ap, ◌∙◌, ap₂, inl, inr, ⊎_elim, arith}
+use Rattle.std.proofs.Common.{◌≡◌, ℕ, ◌+◌, ◌-◌, ◌*◌, ◌/◌, ◌%◌, ◌<◌, ◌≤◌, min, max, Bool, false, ◌&&◌, ◌||◌, ltb, leb, ◌⊎◌, List, length, get_or, set, refl, sym, ap, ◌∙◌, ap₂, inl, inr, ⊎_elim, arith}
 use lib.Bits.{bit_or}
 use Rattle.std.proofs.lemmas.List.{get_or-set_other}
 use Rattle.std.proofs.lemmas.Bool.{and_right, cases_lt, le-ltb, lt-ltb}
@@ -7,7 +7,7 @@ use Rattle.std.proofs.lemmas.Bool.Decides.{nat_tests}
 use Rattle.rows.specs.declared.Row.{Row}
 use Rattle.rows.specs.Rows.{member, moved}
 use Rattle.rows.specs.Words.{bit}
-use Rattle.rows.proofs.Members.{bit_after_set, by_words, member_bit, member_past, member_unused}
+use Rattle.rows.proofs.Members.{bit_after_set, by_words, member_bit, member_past, member_unused, moved_short}
 use Rattle.rows.proofs.Words.{bit_of_or, bit_of_zero}
 
 -- the words from `low` up to `high` have the bits that `f` says, and all others are those of the row `old`
@@ -27,22 +27,22 @@ written_more {words = words} {f = f} i word w inside a b el eh bits =
       past = λ k l. get_or-set_other words i k word 0 (λ q. omega arith) ∙ w.past k (omega arith);
     }
 
--- every word is written, and those from `high` on are as `f` says
-written_all : {old : Row} (row : Row) {low high : ℕ} {f : ℕ → Bool} → Written old row.words low high f → low ≤ 0
-    → ((j : ℕ) → j < 1024 → high ≤ j / 64 → member old j ≡ f j) → ((j : ℕ) → 1024 ≤ j → f j ≡ false)
-    → (j : ℕ) → member row j ≡ f j
-written_all {old = old} row {high = high} {f = f} w first rest =
-    by_words row f
-    (λ j h.
-    ⊎_elim (λ l. w.done j (omega arith) l)
-    (λ l. ap (λ word. bit word (j % 64)) (w.past (j / 64) l) ∙ sym (member_bit old j h) ∙ rest j h l) (cases_lt (j / 64) high))
-
 -- the bit of a word that is not written yet is a member of the row
 bit_unwritten : {old : Row} {words : List ℕ} {low high : ℕ} {f : ℕ → Bool} (i j : ℕ) → Written old words low high f
     → i < 16 → (i < low) ⊎ (high ≤ i) → j / 64 ≡ i → bit (get_or words i 0) (j % 64) ≡ member old j
 bit_unwritten {old = old} i j w few side e =
     ap (λ x. bit x (j % 64)) (⊎_elim (w.below i) (w.past i) side) ∙ ap (λ k. bit (get_or old.words k 0) (j % 64)) (sym e)
     ∙ sym (member_bit old j (omega arith))
+
+-- a row whose words all have the bits that `f` says: those written, and those of the row `old` that are left
+written_all : {old : Row} (row : Row) {low high : ℕ} {f : ℕ → Bool} → Written old row.words low high f
+    → ((j : ℕ) → j < 1024 → (j / 64 < low) ⊎ (high ≤ j / 64) → member old j ≡ f j) → ((j : ℕ) → 1024 ≤ j → f j ≡ false)
+    → (j : ℕ) → member row j ≡ f j
+written_all {old = old} row {low = low} {high = high} {f = f} w rest =
+    by_words row f
+    (λ j h.
+    let outside = λ (side : (j / 64 < low) ⊎ (high ≤ j / 64)). bit_unwritten (j / 64) j w (omega arith) side refl ∙ rest j h side in
+    ⊎_elim (λ l. outside (inl l)) (λ l. ⊎_elim (λ m. w.done j l m) (λ m. outside (inr m)) (cases_lt (j / 64) high)) (cases_lt (j / 64) low))
 
 -- where a row is moved on to j, only the words up to that of j count
 moved_same : (a b : Row) (by j : ℕ) → ((k : ℕ) → k ≤ j / 64 → get_or a.words k 0 ≡ get_or b.words k 0) → moved a by j ≡ moved b by j
@@ -59,39 +59,70 @@ moved_past row by j h = and_right (leb by j) (member row (j - by)) (member_unuse
 abbrev pub shifts : Row → ℕ → ℕ → Bool
 shifts old by j = ltb j 1024 && moved old by j
 
--- a word of a row that is being moved on, from those below that are as they were
-pub shift_word : {old : Row} (row : Row) {low high : ℕ} {f : ℕ → Bool} (i by word : ℕ) → Written old row.words low high f → i < low
+-- nothing is moved on by 1,024 or more
+pub shifts_none : (old : Row) (by j : ℕ) → 1024 ≤ by → shifts old by j ≡ false
+shifts_none old by j h =
+    ⊎_elim (λ l. let short = moved_short old by j (omega arith) in grind (arith, nat_tests))
+    (λ l. ap (λ t. t && moved old by j) (le-ltb j 1024 l)) (cases_lt j 1024)
+
+-- a word that is moved on comes from words at or below it, which are as they were
+moved_as_old : {old : Row} (row : Row) {low high : ℕ} {f : ℕ → Bool} (by i word : ℕ) → Written old row.words low high f → i < low
     → ((j : ℕ) → j / 64 ≡ i → bit word (j % 64) ≡ moved row by j) → (j : ℕ) → j / 64 ≡ i → bit word (j % 64) ≡ moved old by j
-shift_word {old = old} row i by word w h bits j e = bits j e ∙ moved_same row old by j (λ k l. w.below k (omega arith))
+moved_as_old {old = old} row by i word w h bits j e = bits j e ∙ moved_same row old by j (λ k l. w.below k (omega arith))
 
--- a row whose words have been moved on
-pub shifted_all : {old : Row} (row : Row) {low end : ℕ} (by : ℕ) → Written old row.words low end (shifts old by) → low ≤ 0
-    → end ≡ min (old.used + by / 64 + 1) 16 → (j : ℕ) → member row j ≡ shifts old by j
-shifted_all {old = old} row by w first is =
-    written_all row w first
-    (λ j h l. member_unused old j (omega arith) ∙ sym (and_right (ltb j 1024) (moved old by j) (moved_past old by j (omega arith))))
+-- a word of a row that is being moved on
+pub shift_word : {old : Row} (row : Row) {low high : ℕ} (by i word : ℕ) → Written old row.words low high (shifts old by) → i < low → i < 16
+    → ((j : ℕ) → j / 64 ≡ i → bit word (j % 64) ≡ moved row by j) → (j : ℕ) → j / 64 ≡ i → bit word (j % 64) ≡ shifts old by j
+shift_word {old = old} row by i word w h few bits j e =
+    moved_as_old row by i word w h bits j e ∙ ap (λ t. t && moved old by j) (sym (lt-ltb j 1024 (omega arith)))
+
+-- a row whose words have been moved on, with 0 in those before the first that one is moved to
+pub shifted_all : {old : Row} (row : Row) {words : List ℕ} {end : ℕ} (by : ℕ) → Written old words (by / 64) end (shifts old by)
+    → end ≡ min (old.used + by / 64 + 1) 16 → ((k : ℕ) → k < by / 64 → get_or row.words k 0 ≡ 0)
+    → ((k : ℕ) → by / 64 ≤ k → get_or row.words k 0 ≡ get_or words k 0) → (j : ℕ) → member row j ≡ shifts old by j
+shifted_all {old = old} row {words = words} {end = end} by w is lower same =
+    by_words row (shifts old by)
+    (λ j h.
+    ⊎_elim
+    (λ l.
+    ap (λ x. bit x (j % 64)) (lower (j / 64) l) ∙ bit_of_zero (j % 64)
+    ∙ sym (and_right (ltb j 1024) (moved old by j) (moved_short old by j (omega arith))))
+    (λ l. ap (λ x. bit x (j % 64)) (same (j / 64) l) ∙ ⊎_elim (w.done j l) (past j h) (cases_lt (j / 64) end)) (cases_lt (j / 64) (by / 64)))
     (λ j h. ap (λ t. t && moved old by j) (le-ltb j 1024 h))
+  where
+    past : (j : ℕ) → j < 1024 → end ≤ j / 64 → bit (get_or words (j / 64) 0) (j % 64) ≡ shifts old by j
+    past j h l =
+        bit_unwritten (j / 64) j w (omega arith) (inr l) refl ∙ member_unused old j (omega arith)
+        ∙ sym (and_right (ltb j 1024) (moved old by j) (moved_past old by j (omega arith)))
 
--- what joins a row that is moved on to the words before `end`
-abbrev pub joins : Row → ℕ → ℕ → ℕ → Bool
-joins old end by j = member old j || (ltb j (64 * end) && moved old by j)
+-- what joins a row that is moved on to its words in use
+abbrev pub joins : Row → ℕ → ℕ → Bool
+joins old by j = member old j || (ltb j (64 * old.used) && moved old by j)
 
 -- a word with the row's own bits and those that are moved to it
-pub join_word : {old : Row} (row : Row) {low end : ℕ} (by i word : ℕ) → Written old row.words low end (joins old end by) → i < low → i < end
-    → end ≤ 16 → ((j : ℕ) → j / 64 ≡ i → bit word (j % 64) ≡ moved row by j)
-    → (j : ℕ) → j / 64 ≡ i → bit (bit_or (get_or row.words i 0) word) (j % 64) ≡ joins old end by j
-join_word {old = old} row {end = end} by i word w h l few bits j e =
+pub join_word : {old : Row} (row : Row) {low : ℕ} (by i word : ℕ) → Written old row.words low old.used (joins old by) → i < low → i < old.used
+    → ((j : ℕ) → j / 64 ≡ i → bit word (j % 64) ≡ moved row by j)
+    → (j : ℕ) → j / 64 ≡ i → bit (bit_or (get_or row.words i 0) word) (j % 64) ≡ joins old by j
+join_word {old = old} row by i word w h l bits j e =
+    let few = old.within in
     bit_of_or (get_or row.words i 0) word (j % 64)
     ∙ ap₂ ◌||◌ (bit_unwritten i j w (omega arith) (inl h) e)
-    (shift_word row i by word w h bits j e ∙ ap (λ t. t && moved old by j) (sym (lt-ltb j (64 * end) (omega arith))))
+    (moved_as_old row by i word w h bits j e ∙ ap (λ t. t && moved old by j) (sym (lt-ltb j (64 * old.used) (omega arith))))
+
+-- nothing joins a word before the first that it is moved to, nor one that is not in use
+joins_other : (old : Row) (by j : ℕ) → (j / 64 < by / 64) ⊎ (old.used ≤ j / 64) → member old j ≡ joins old by j
+joins_other old by j (inl h) = let short = moved_short old by j (omega arith) in grind (arith, nat_tests)
+joins_other old by j (inr h) = let e = le-ltb j (64 * old.used) (omega arith) in grind (arith, nat_tests)
+
+-- so that nothing joins a row whose words in use end before it
+pub joins_none : (old : Row) (by : ℕ) → old.used ≤ by / 64 → (j : ℕ) → member old j ≡ joins old by j
+joins_none old by h j = joins_other old by j (⊎_elim (λ l. inl l) (λ l. inr (omega arith)) (cases_lt (j / 64) (by / 64)))
 
 -- a row to which all have been joined
-pub joined_all : {old : Row} (row : Row) {low end : ℕ} (by : ℕ) → Written old row.words low end (joins old end by) → low ≤ 0 → end ≤ 16
-    → (j : ℕ) → member row j ≡ joins old end by j
-joined_all {old = old} row {end = end} by w first few =
-    written_all row w first
-    (λ j h l. let e = le-ltb j (64 * end) (omega arith) in grind (arith, nat_tests))
-    (λ j h. let m = member_past old j h in let e = le-ltb j (64 * end) (omega arith) in grind (arith, nat_tests))
+pub joined_all : {old : Row} (row : Row) (by : ℕ) → Written old row.words (by / 64) old.used (joins old by) → (j : ℕ) → member row j ≡ joins old by j
+joined_all {old = old} row by w =
+    written_all row w (λ j h. joins_other old by j)
+    (λ j h. let few = old.within in sym (joins_other old by j (inr (omega arith))) ∙ member_past old j h)
 
 -- the members of either of two rows
 abbrev pub joint : Row → Row → ℕ → Bool
@@ -108,7 +139,7 @@ joint_word b {words = words} {i = i} w h j e =
 -- a row whose words have all been joined
 pub joint_all : {a : Row} (b row : Row) {end : ℕ} → Written a row.words 0 end (joint a b) → b.used ≤ end → (j : ℕ) → member row j ≡ joint a b j
 joint_all {a = a} b row w all =
-    written_all row w (omega arith) (λ j h l. let none = member_unused b j (omega arith) in grind (arith, nat_tests))
+    written_all row w (λ j h. ⊎_elim (λ l. absurd (omega arith)) (λ l. let none = member_unused b j (omega arith) in grind (arith, nat_tests)))
     (λ j h. ap₂ ◌||◌ (member_past a j h) (member_past b j h))
 
 -- the members that a question is answered yes of
@@ -144,5 +175,5 @@ kept_zero f {old = old} {words = words} {i = i} w h zero =
 pub kept_all : (f : ℕ → Bool) {old : Row} (row : Row) {end : ℕ} → Written old row.words 0 end (chosen f old) → old.used ≤ end
     → (j : ℕ) → member row j ≡ chosen f old j
 kept_all f {old = old} row w all =
-    written_all row w (omega arith) (λ j h l. let none = member_unused old j (omega arith) in grind (arith, nat_tests))
+    written_all row w (λ j h. ⊎_elim (λ l. absurd (omega arith)) (λ l. let none = member_unused old j (omega arith) in grind (arith, nat_tests)))
     (λ j h. ap (λ t. t && f j) (member_past old j h))

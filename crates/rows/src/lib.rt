@@ -80,26 +80,22 @@ impl Row {
             .map_or(0, |last| last + 1);
     }
 
-    // Word i of the row moved on by `by`.
-    fn moved_word(&self, i: usize, by: usize) -> u64
-        requires { i < WORDS }
-        ensures { (j : ℕ) → j / 64 ≡ i → bit result (j % 64) ≡ moved self.now by j }
-    {
-        match i.checked_sub(by / 64) {
-            None => 0,
-            Some(0) => carried(0, self.words[0], by % 64),
-            Some(from) => carried(self.words[from - 1], self.words[from], by % 64),
-        }
-    }
-
     // Moves each member on by `by`. A word comes from words at or below it, so the last word is written first.
     pub fn shift(&mut self, by: usize)
         ensures { (j : ℕ) → member self.new j ≡ (nat_lt j 1024 && moved self.old by j) }
     {
-        self.used = (self.used + by / 64 + 1).min(WORDS);
-        for i in (0..self.used).rev() {
-            self.words[i] = self.moved_word(i, by);
+        if by >= WIDTH {
+            *self = Row::none();
+            return;
         }
+        let far = by / 64;
+        let bits = by % 64;
+        self.used = (self.used + far + 1).min(WORDS);
+        for i in (far + 1..self.used).rev() {
+            self.words[i] = carried(self.words[i - far - 1], self.words[i - far], bits);
+        }
+        self.words[far] = carried(0, self.words[0], bits);
+        self.words[0..far].fill(0);
         self.trim();
     }
 
@@ -108,8 +104,13 @@ impl Row {
         ensures joined { (j : ℕ) → member self.new j ≡ (member self.old j || (nat_lt j (64 * self.old.used) && moved self.old by j)) }
         ensures used { self.new.used ≡ self.old.used }
     {
-        for i in (0..self.used).rev() {
-            self.words[i] |= self.moved_word(i, by);
+        let far = by / 64;
+        let bits = by % 64;
+        if far < self.used {
+            for i in (far + 1..self.used).rev() {
+                self.words[i] |= carried(self.words[i - far - 1], self.words[i - far], bits);
+            }
+            self.words[far] |= carried(0, self.words[0], bits);
         }
     }
 

@@ -1,20 +1,36 @@
 -- Each word takes on what is moved to it, from the last down.
-use Rattle.std.proofs.Common.{◌-◌, get_or, arith, rules}
+use Rattle.std.proofs.Common.{◌-◌, ◌/◌, get_or, arith, rules}
 use lib.Bits.{bit_or}
-use Rattle.rows.proofs.Written.{join_word, joined_all, written_more}
+use Rattle.rows.proofs.Members.{first_word, later_word}
+use Rattle.rows.proofs.Written.{join_word, joined_all, joins_none, written_more}
 use Rattle.rows.proofs.Row.join_moved.Goals as goal
 
 pub loop-i-preserved : goal.loop-i-preserved
 loop-i-preserved c =
     let i = c.loop-i.i - 1 in
+    let row = c.loop-i.self in
+    let by = c.args.by in
+    let word = c.carried.result in
     let few = c.args.self.now.within in
-    let w = c.loop-i.invariant.1 in (
+    let w = c.loop-i.invariant.2 in (
       c.loop-i.invariant.0,
-      written_more i (bit_or (get_or c.loop-i.self.words i 0) c.moved_word.result) w (search rules) (omega arith) (omega arith)
-          (omega arith) (omega arith)
-          (join_word c.loop-i.self c.args.by i c.moved_word.result w (omega arith) (omega arith) few c.moved_word.ensures),
+      omega arith,
+      written_more i (bit_or (get_or row.words i 0) word) w (search rules) (omega arith) (omega arith) (omega arith) (omega arith)
+          (join_word row by i word w (omega arith) (omega arith) (later_word row by i word (omega arith) (omega arith) c.carried.ensures)),
     )
 
-pub returns-clause-joined : goal.returns-clause-joined
-returns-clause-joined c =
-    joined_all c.loop-i.self c.args.by c.loop-i.invariant.1 c.loop-i-test.false c.args.self.now.within
+pub returns-after-loop-i-clause-joined : goal.returns-after-loop-i-clause-joined
+returns-after-loop-i-clause-joined c =
+    let row = c.loop-i.self in
+    let by = c.args.by in
+    let far = by / 64 in
+    let word = c.carried-then-far-self.result in
+    let few = c.args.self.now.within in
+    let w = c.loop-i.invariant.2 in
+    let above = c.loop-i.invariant.1 in
+    joined_all _ by (
+    written_more far (bit_or (get_or row.words far 0) word) w (search rules) (omega arith) (omega arith) (omega arith) (omega arith)
+    (join_word row by far word w (omega arith) (omega arith) (first_word row by word (omega arith) c.carried-then-far-self.ensures)))
+
+pub returns-else-far-self-clause-joined : goal.returns-else-far-self-clause-joined
+returns-else-far-self-clause-joined c = joins_none c.args.self.now c.args.by c.if-far-self.false

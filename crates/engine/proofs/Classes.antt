@@ -16,7 +16,8 @@ use Rattle.engine.specs.declared.token.Punctuation.{Punctuation}
 use Rattle.engine.specs.declared.token.Token.TheVariants as token
 use Rattle.engine.proofs.Gaps.{stands_true}
 use Rattle.kinds.proofs.Texts.{pair_leads}
-use Rattle.engine.proofs.Machine.{only_true, step_by}
+use Rattle.kinds.proofs.Steps.{only_true}
+use Rattle.engine.proofs.Machine.{step_by}
 
 -- what is expected in a state is one thing
 same_expected : {e f : Expects} → Some e ≡ Some f → e ≡ f

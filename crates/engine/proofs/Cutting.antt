@@ -1,11 +1,12 @@
 -- The cut of items into fragments, one item at a time.
-use Rattle.std.proofs.Common.{◌≡◌, ℕ, ◌+◌, ◌-◌, ◌<◌, ◌≤◌, Bool, true, false, not, ◌||◌, List, [], ◌∷◌, ◌++◌, length, get_or, take, drop, is_some, Some, None, Option, sym, refl, ap, ◌∙◌, add-zero, add_assoc, zero-add, arith, take-add}
+use Rattle.std.proofs.Common.{◌≡◌, ℕ, ◌+◌, ◌-◌, ◌<◌, ◌≤◌, Bool, true, false, not, ◌||◌, List, [], ◌∷◌, ◌++◌, length, get_or, take, drop, is_some, Some, None, Option, sym, refl, ap, ◌∙◌, arith, take-add}
 use Rattle.std.proofs.lemmas.List.{drop_more}
 use Rattle.std.proofs.lemmas.Bool.{both_ways}
 use Rattle.kinds.specs.Fragments.{Fragment, is_gap, endless, some, sum, least, cut_from}
 use Rattle.kinds.specs.Grammar.{Placed}
 use Rattle.kinds.specs.Patterns.{Item}
 use Rattle.kinds.specs.Patterns as pattern
+use Rattle.kinds.proofs.Backs.{sum_push}
 use Rattle.engine.specs.Compiling.{Cuts}
 use Rattle.engine.specs.Stored.{item_of}
 use Rattle.engine.specs.declared.part.Part.{Part}
@@ -28,11 +29,6 @@ or_false false = refl
 some_more : (p : Item → Bool) (qs : List Placed) (q : Placed) → some p (qs ++ q ∷ []) ≡ (some p qs || p q.item)
 some_more p [] q = or_false (p q.item)
 some_more p (x ∷ qs) q = ap (λ b. p x.item || b) (some_more p qs q) ∙ sym (or_assoc (p x.item) (some p qs) (p q.item))
-
--- a sum over items, with one item more
-sum_more : (f : Item → ℕ) (qs : List Placed) (q : Placed) → sum f (qs ++ q ∷ []) ≡ sum f qs + f q.item
-sum_more f [] q = add-zero (f q.item) ∙ sym (zero-add (f q.item))
-sum_more f (x ∷ qs) q = ap (λ n. f x.item + n) (sum_more f qs q) ∙ sym (add_assoc (f x.item) (sum f qs) (f q.item))
 
 module _ (qs : List Placed) where
   -- the row of gaps from the end of a body to here
@@ -79,7 +75,7 @@ module _ (qs : List Placed) where
           record {
             ordered = omega arith;
             tested = e_is ∙ ap (λ b. b || endless q.item) so_far.tested ∙ sym (some_more endless (row end i) q) ∙ ap (some endless) (sym more);
-            summed = n_is ∙ ap (λ k. k + least q.item) so_far.summed ∙ sym (sum_more least (row end i) q) ∙ ap (sum least) (sym more);
+            summed = n_is ∙ ap (λ k. k + least q.item) so_far.summed ∙ sym (sum_push least (row end i) q) ∙ ap (sum least) (sym more);
             cuts = λ break. stepped break ∙ ap (λ b. step break b (some endless (row end i))) gap ∙ ap (λ xs. cut_from break (take end qs) xs (drop (i + 1) qs)) (sym more);
           }
 

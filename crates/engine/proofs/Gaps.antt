@@ -7,7 +7,8 @@ use Rattle.kinds.specs.Reader.{digits, endless, Numeral, stuck, goes_on, complet
 use Rattle.kinds.specs.Reader.{least as lower, most as upper}
 use Rattle.engine.specs.Scanning.{standing, LongestNumber}
 use Rattle.engine.specs.Tokens.{continued, Completes, Stops}
-use Rattle.engine.proofs.Machine.{only_true, only_false, next_behind_digits, next_closed, step_by, stops_here, number_run}
+use Rattle.kinds.proofs.Steps.{only_true}
+use Rattle.engine.proofs.Machine.{only_false, next_behind_digits, next_closed, step_by, stops_here, number_run}
 
 module _ (t : List ℕ) (place c : ℕ) where
   -- where it does, it is the text's there

@@ -6,12 +6,9 @@ use Rattle.kinds.specs.Alphabet.{Alphabet, within}
 use Rattle.kinds.specs.Grammar.{Digits, followed_by}
 use Rattle.kinds.specs.Reader.{State, digits, Numeral, Next, stuck, goes_on, complete, only_if, closed, behind_digits, next, finished, follow}
 use Rattle.kinds.specs.Reader.{least as lower, most as upper}
+use Rattle.kinds.proofs.Steps.{only_true}
 use Rattle.engine.specs.Scanning.{LongestNumber}
 use Rattle.engine.specs.Tokens.{continued, Stops}
-
--- a step under a test that passes
-pub only_true : (b : Bool) (n : Next) → b ≡ true → only_if b n ≡ n
-only_true b n e = ap (λ x. only_if x n) e
 
 -- a step under a test that fails
 pub only_false : (b : Bool) (n : Next) → b ≡ false → only_if b n ≡ stuck

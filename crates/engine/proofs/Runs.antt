@@ -1,8 +1,7 @@
 -- What holds of stored runs: where they lie, how long they are, and how two of them compare.
-use Rattle.std.proofs.Common.{◌≡◌, ℕ, ◌+◌, Bool, true, not, ◌&&◌, eqb, List, reverse, length, sym, refl, ap, ◌∙◌, arith, length-drop, length-take}
-use Rattle.std.proofs.lemmas.List.{reverse-reverse}
+use Rattle.std.proofs.Common.{◌≡◌, ℕ, ◌+◌, Bool, true, not, ◌&&◌, eqb, List, length, sym, refl, ap, ◌∙◌, arith, length-drop, length-take}
 use Rattle.std.proofs.lemmas.Bool.{leb-true}
-use Rattle.std.proofs.lemmas.Bool.Decides.{same_from_decides, Decides-like, nat_tests}
+use Rattle.std.proofs.lemmas.Bool.Decides.{nat_tests}
 use Rattle.std.proofs.lemmas.Cmp.{same_from_slice_cmp}
 use Rattle.std.specs.Cmp.Lexicographic.{slice_cmp}
 use Rattle.std.specs.Ordering.{nat_cmp, is_lt}
@@ -11,7 +10,7 @@ use Rattle.kinds.specs.Fragments.{before}
 use Rattle.kinds.specs.Patterns.{compared, same, up_to}
 use Rattle.kinds.specs.declared.pattern.Direction.{Direction}
 use Rattle.kinds.specs.declared.pattern.Direction.TheVariants.{FirstOn, LastOn}
-use Rattle.kinds.proofs.Decisions.{same_decides}
+use Rattle.kinds.proofs.Backs.{same_reversed}
 use Rattle.engine.specs.Stored.{run_codes, run_within}
 use Rattle.engine.specs.declared.run.Run.{Run}
 
@@ -27,16 +26,7 @@ run_length codes r h = let fits = leb-true (r.start + r.len) (length codes) h in
 abbrev pub strictly : List ℕ → List ℕ → Bool
 strictly xs ys = up_to xs ys && not (same xs ys)
 
--- reversed lists are the same where the lists are
-same_reversed : (xs ys : List ℕ) → same (reverse xs) (reverse ys) ≡ same xs ys
-same_reversed xs ys =
-    same_from_decides
-    (same (reverse xs) (reverse ys))
-    (same xs ys)
-    (Decides-like (same (reverse xs) (reverse ys)) (λ e. sym (reverse-reverse xs) ∙ ap reverse e ∙ reverse-reverse ys) (ap reverse) (same_decides (reverse xs) (reverse ys)))
-    (same_decides xs ys)
-
--- and so are lists as they are compared
+-- lists as they are compared are the same where the lists are
 same_compared : (d : Direction) (xs ys : List ℕ) → same (compared d xs) (compared d ys) ≡ same xs ys
 same_compared FirstOn xs ys = refl
 same_compared LastOn xs ys = same_reversed xs ys

@@ -68,7 +68,7 @@ endless_mirrored (gap m (Some n)) = refl
 endless_mirrored (gap m None) = refl
 
 -- reversed lists are the same exactly when the lists are
-same_reversed : (xs ys : List ℕ) → same (reverse xs) (reverse ys) ≡ same xs ys
+pub same_reversed : (xs ys : List ℕ) → same (reverse xs) (reverse ys) ≡ same xs ys
 same_reversed xs ys =
     same_from_decides
     (same (reverse xs) (reverse ys))
@@ -117,7 +117,7 @@ all_mirrored P [] h = tt
 all_mirrored P (q ∷ qs) (p, h) = All-push P (mirrored_placed qs) (mirror q) (all_mirrored P qs h) p
 
 -- a sum over one more item
-sum_push : (f : Item → ℕ) (qs : List Placed) (q : Placed) → sum f (qs ++ q ∷ []) ≡ sum f qs + f q.item
+pub sum_push : (f : Item → ℕ) (qs : List Placed) (q : Placed) → sum f (qs ++ q ∷ []) ≡ sum f qs + f q.item
 sum_push f [] q = omega arith
 sum_push f (p ∷ ps) q = omega (arith, sum_push f ps q)
 

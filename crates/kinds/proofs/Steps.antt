@@ -60,7 +60,7 @@ Outcome a s c (goes_on s') = Goes a s c s'
 Outcome a s c (complete i) = Done a s c i
 
 -- a step under a test that passes
-only_true : (b : Bool) (n : Next) → b ≡ true → only_if b n ≡ n
+pub only_true : (b : Bool) (n : Next) → b ≡ true → only_if b n ≡ n
 only_true b n e = rw e
 
 module _ {E : Type 0} (a : Alphabet E) where

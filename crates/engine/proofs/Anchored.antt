@@ -90,7 +90,7 @@ module _ (r : Reference) (qs mirror : List Placed) (f : Fragment) (g : spec.Frag
       ∙ ap bodies (part_within qs f.first f.end from to a b c)
 
   -- what stands before the anchor
-  front_is : a.front ≡ part_of qs f.first f.anchor
+  pub front_is : a.front ≡ part_of qs f.first f.anchor
   front_is =
       let none : f.first - f.first ≡ 0 = omega arith in
       let ordered = s.holds.ordered in

@@ -1,5 +1,5 @@
 -- The least end of a fragment's placement, from one place where its anchor stands to the next.
-use Rattle.std.proofs.Common.{◌≡◌, ℕ, ◌+◌, ◌<◌, ◌≤◌, min, true, leb, ◌⊎◌, List, length, Some, None, vec_items, vec_len, Option, sym, ap, ◌∙◌, subst, ⊎_elim, arith}
+use Rattle.std.proofs.Common.{◌≡◌, ℕ, ◌+◌, ◌<◌, ◌≤◌, min, true, leb, ◌⊎◌, inl, refl, List, length, Some, None, vec_items, vec_len, Option, sym, ap, ◌∙◌, subst, ⊎_elim, arith}
 use Rattle.std.proofs.lemmas.Bool.{cases_lt, cond_both, leb-false}
 use Rattle.kinds.specs.Fragments as spec
 use Rattle.kinds.specs.Fragments.{Anchor, anchor, bodies}
@@ -9,13 +9,16 @@ use Rattle.kinds.specs.Spans.{Anchored, NoLess}
 use Rattle.kinds.proofs.Anchors.{BestBefore, FirstFit, first_fit_exactly, anchor_splits, stands_decides, spans_at_most, best_none, best_on, best_kept, best_more, best_all, best_least}
 use Rattle.kinds.proofs.Searches.{least_end_is}
 use Rattle.engine.specs.Codes.{not_past, ShiftsOf}
-use Rattle.engine.specs.Finding.{smaller_of, Bounds, LeastThrough, Sides}
+use Rattle.engine.specs.Finding.{smaller_of, Bounds, LeastThrough, Sides, part_of}
+use Rattle.engine.specs.Openings.{Closed, OpeningOf}
 use Rattle.engine.specs.Reading.{held}
 use Rattle.engine.specs.Sequences.{Searches}
 use Rattle.engine.specs.declared.fragment.Fragment.{Fragment}
+use Rattle.engine.specs.declared.opening.Opening.{Opening}
 use Rattle.engine.specs.declared.sequence.Sequence.{Sequence}
 use Rattle.engine.specs.declared.starts.Starts.{Starts}
-use Rattle.engine.proofs.Anchored.{codes_long, sides_of}
+use Rattle.engine.proofs.Anchored.{codes_long, front_is, sides_of}
+use Rattle.engine.proofs.Openings.{through_closed}
 
 -- the least end through the places of an anchor before one, or none, where no place past the last one gives a smaller end
 pub record Best (a : Anchor) (starts : Starts) (xs : List ℕ) (place last : ℕ) (best : Option ℕ) : Type 0 where
@@ -39,6 +42,11 @@ best_past a starts xs p (Some b) (Some e) (x, least) h =
     subst (λ n. BestBefore a.front a.codes a.back starts.from starts.until xs (p + 1) (Some n)) same
     (best_more a.front a.codes a.back starts.from starts.until xs p (Some b) e x least more h))
     (cases_lt b e)
+
+-- beside none, what there is is the smaller
+smaller_none : (best : Option ℕ) → best ≡ smaller_of best None
+smaller_none None = refl
+smaller_none (Some b) = refl
 
 -- what is no less than the best is no less than a smaller one
 no_less_smaller : (best end : Option ℕ) (e : ℕ) → NoLess best e → NoLess (smaller_of best end) e
@@ -83,6 +91,12 @@ module _ (sequence : Sequence) (f : Fragment) (g : spec.Fragment) (s : Searches 
       let near = spans_at_most a.front xs start.begins q sides.small.front_bounded start.spans in
       let inside = ((stands_decides a.codes xs q).0 x.stands).0 in
       (start.begins, start.early, omega (arith, sides.small.short, s.coded, start.spans.ordered), omega arith)
+
+  -- where the literal that the fragment begins with stands nowhere near enough before a place, nothing ends through an anchor there
+  pub none_through : (o : Opening) (p : ℕ) → OpeningOf (part_of (held sequence.pattern) f.first f.anchor) o → Closed o xs p → LeastThrough a starts xs p None
+  none_through o p opening =
+      let front = front_is sequence.offsets.reference (held sequence.pattern) (held sequence.mirror) f g s in
+      through_closed a starts xs p o (subst (λ is. OpeningOf is o) (sym front) opening) sides.small.front_bounded (omega (arith, sides.small.short, s.coded))
 
   -- no place before the first one, and none past the last
   pub best_begins : (place last : ℕ) → place ≡ starts.from + f.lead → length xs ≤ 4294967295
@@ -142,3 +156,7 @@ module _ (sequence : Sequence) (f : Fragment) (g : spec.Fragment) (s : Searches 
                 (λ no_less. no_less_more new (q + vec_len f.codes) e (omega (arith, x.behind.ordered, codes_long sequence.offsets.reference (held sequence.pattern) (held sequence.mirror) f g s)) no_less)
                 (narrow q past);
           }
+
+      -- where nothing ends through it, the best so far is that before the place behind it
+      pub best_stays : (best : Option ℕ) (next : ℕ) → LeastThrough a starts xs p None → next ≡ p + 1 → Best a starts xs place last best → Best a starts xs next last best
+      best_stays best next none is_next h = best_next best None best next last (λ _. none) (smaller_none best) is_next (λ q past. inl past) h

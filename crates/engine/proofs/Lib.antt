@@ -16,6 +16,7 @@ pub mod Least
 pub mod Lengths
 pub mod Machine
 pub mod Mirrored
+pub mod Openings
 pub mod Reaching
 pub mod Runs
 pub mod Scans

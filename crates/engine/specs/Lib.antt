@@ -8,6 +8,7 @@ pub mod Faults
 pub mod Finding
 pub mod Lent
 pub mod Limits
+pub mod Openings
 pub mod Parts
 pub mod Reaching
 pub mod Reading

@@ -11,6 +11,7 @@ ghost use Rattle.kinds.specs.Search.{least_end, stands_at};
 
 use crate::fragment::Fragment;
 use crate::lent::{BackFrom, OnFrom};
+use crate::opening::Opening;
 use crate::pattern::Pattern;
 use crate::reach::reach;
 use crate::scan::next_fit_up_to;
@@ -29,7 +30,7 @@ fn is_bounded(pattern: &Pattern, fragment: &Fragment) -> bool
         && fragment.end <= pattern.parts.len()
 }
 
-// Sequence, reading and starts are told apart below: of one sequence each fragment starts elsewhere, in readings of its own.
+// No struct holds a sequence, a reading and starts together: the starts are others for each fragment.
 
 // The least end of a placement whose anchor stands at a place and that starts where it may, or none.
 fn end_through<R: Reading>(
@@ -93,10 +94,13 @@ pub(crate) fn least_end<R: Reading>(
     let mut place = starts.first_place(fragment.lead)?;
     let mut last = starts.last_place();
     let mut best = None;
+    let mut opening = Opening::of(&sequence.pattern, fragment);
     // No `for`: where the anchor is looked for next is known only once the best end so far is.
     while let Some(fit) = next_fit_up_to(reading, codes, &fragment.shifts, place, last) {
-        best = smaller(best, end_through(sequence, fragment, reading, fit, starts));
-        last = last_useful(last, best, codes.len());
+        if !opening.excludes(reading, fit) {
+            best = smaller(best, end_through(sequence, fragment, reading, fit, starts));
+            last = last_useful(last, best, codes.len());
+        }
         place = fit.checked_add(1)?;
     }
     best

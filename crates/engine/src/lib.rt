@@ -13,6 +13,7 @@ mod lent;
 pub mod lexer;
 pub mod limits;
 pub mod mirror;
+mod opening;
 pub mod part;
 pub mod pattern;
 mod reach;

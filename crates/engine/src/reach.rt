@@ -45,7 +45,7 @@ fn pass_any<R: Reading>(row: &mut Row, reading: &R)
 }
 
 // The code of the element at a place.
-fn code_at<R: Reading>(reading: &R, place: u32) -> Option<u16>
+pub(crate) fn code_at<R: Reading>(reading: &R, place: u32) -> Option<u16>
     ensures { result ≡ slice_get (codes_of R.Element.alphabet (R.elements reading.now)) place }
 {
     reading.at(place).map(|element| element.code())

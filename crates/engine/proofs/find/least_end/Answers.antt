@@ -4,10 +4,14 @@ use Rattle.std.proofs.lemmas.Bool.{both_ways}
 use Rattle.kinds.specs.Fragments.{anchor, bodies}
 use Rattle.kinds.specs.Spans.{NoLess}
 use Rattle.engine.specs.Codes.{codes_of}
+use Rattle.engine.specs.Finding.{part_of}
+use Rattle.engine.specs.Openings.{OpensBy}
+use Rattle.engine.specs.Reading.{held}
 use Rattle.engine.specs.Stored.{placed_of}
-use Rattle.engine.proofs.Least.{sides, bounds_of, best_begins, none_begins, best_ends, next_before, best_next}
+use Rattle.engine.proofs.Least.{sides, bounds_of, best_begins, none_begins, best_ends, next_before, best_next, best_stays, none_through}
 use Rattle.engine.proofs.Smallest.{smaller_ends}
 use Rattle.engine.proofs.find.least_end.Goals as goal
+use Rattle.engine.proofs.find.least_end.Goals.{then-not-excludes, else-not-excludes}
 
 pub returns-then-not-is_bounded : goal.returns-then-not-is_bounded
 returns-then-not-is_bounded g c f s =
@@ -26,11 +30,16 @@ returns-in_err-place g c f s =
     ∙ none_begins c.args.sequence.now c.args.fragment.now f s c.args.starts (codes_of g.R.Element.Kind.alphabet all) (omega arith) c.in_err-place.ensures
 
 pub loop-fit-init : goal.loop-fit-init
-loop-fit-init g c f s =
-    let few = g.R.Reading.bounded c.args.reading.now in
-    let many = length-map (g.R.Reading.elements c.args.reading.now) g.R.Element.Kind.alphabet.code in
-    best_begins c.args.sequence.now c.args.fragment.now f s c.args.starts
-    (codes_of g.R.Element.Kind.alphabet (g.R.Reading.elements c.args.reading.now)) c.in_ok-place.place c.last_place-last.result c.in_ok-place.ensures (omega arith) c.last_place-last.ensures
+loop-fit-init g c = (
+  λ f s.
+      let few = g.R.Reading.bounded c.args.reading.now in
+      let many = length-map (g.R.Reading.elements c.args.reading.now) g.R.Element.Kind.alphabet.code in
+      best_begins c.args.sequence.now c.args.fragment.now f s c.args.starts
+      (codes_of g.R.Element.Kind.alphabet (g.R.Reading.elements c.args.reading.now)) c.in_ok-place.place c.last_place-last.result c.in_ok-place.ensures (omega arith) c.last_place-last.ensures,
+  c.of-opening.ensures.opening,
+  c.of-opening.ensures.looked (codes_of g.R.Element.Kind.alphabet (g.R.Reading.elements c.args.reading.now)),
+  omega (arith, c.of-opening.ensures.next),
+)
 
 pub returns-in_err-place-2 : goal.returns-in_err-place-2
 returns-in_err-place-2 g c f s =
@@ -42,19 +51,41 @@ returns-in_err-place-2 g c f s =
     absurd (omega (arith, c.in_err-place-2.ensures))
 
 pub loop-fit-preserved : goal.loop-fit-preserved
-loop-fit-preserved g c f s =
+loop-fit-preserved g c =
+    let sequence = c.args.sequence.now in
     let fragment = c.args.fragment.now in
+    let starts = c.args.starts in
     let xs = codes_of g.R.Element.Kind.alphabet (g.R.Reading.elements c.args.reading.now) in
     let codes = c.as_slice-codes.ensures.value in
     let long : length c.as_slice-codes.result.now ≡ vec_len fragment.codes = ap length codes ∙ sym fragment.codes.ok.0 in
-    let narrow = λ (q : ℕ) (past : c.last_useful-last.result < q). subst (λ n. (c.loop-fit.last < q) ⊎ NoLess c.smaller-best.result (q + n)) long (c.last_useful-last.ensures q past) in
-    best_next c.args.sequence.now c.args.fragment.now f s c.args.starts xs _ codes c.loop-fit.place c.loop-fit.last c.next_fit_up_to.result c.next_fit_up_to.ensures.first
-    c.in-Some.fit c.in-Some.is c.loop-fit.best c.end_through.result c.smaller-best.result c.in_ok-place-2.place c.last_useful-last.result
-    (λ y. c.end_through.ensures (anchor c.args.sequence.now.offsets.reference (bodies f.body)) (sides c.args.sequence.now c.args.fragment.now f s c.args.starts xs) y)
-    (c.smaller-best.ensures ∙ smaller_ends c.loop-fit.best c.end_through.result) c.in_ok-place-2.ensures.1 narrow (c.loop-fit.invariant f s)
+    let known = c.loop-fit.invariant.1 in
+    let on = c.in-Some.ensures.on in (
+      λ f s.
+          elim c.if-not-excludes.branch [
+            | then-not-excludes w ↦
+                let narrow = λ (q : ℕ) (past : w.last_useful-last.result < q). subst (λ n. (c.loop-fit.last < q) ⊎ NoLess w.smaller-best.result (q + n)) long (w.last_useful-last.ensures q past) in
+                rw (w.last-is, w.best-is)
+                (best_next sequence fragment f s starts xs _ codes c.loop-fit.place c.loop-fit.last c.next_fit_up_to.result c.next_fit_up_to.ensures.first
+                c.in-Some.fit c.in-Some.is c.loop-fit.best w.end_through.result w.smaller-best.result c.in_ok-place-2.place w.last_useful-last.result
+                (λ y. w.end_through.ensures (anchor sequence.offsets.reference (bodies f.body)) (sides sequence fragment f s starts xs) y)
+                (w.smaller-best.ensures ∙ smaller_ends c.loop-fit.best w.end_through.result) c.in_ok-place-2.ensures.1 narrow (c.loop-fit.invariant.0 f s))
+            | else-not-excludes w ↦
+                rw (w.last-is, w.best-is)
+                (best_stays sequence fragment f s starts xs _ codes c.loop-fit.place c.loop-fit.last c.next_fit_up_to.result c.next_fit_up_to.ensures.first
+                c.in-Some.fit c.in-Some.is c.loop-fit.best c.in_ok-place-2.place
+                (none_through sequence fragment f s starts xs c.loop-fit.opening c.in-Some.fit known (c.excludes.ensures.closed.0 w.if-not-excludes.false))
+                c.in_ok-place-2.ensures.1 (c.loop-fit.invariant.0 f s))
+          ],
+      record {
+        code = subst (λ code. OpensBy code (part_of (held sequence.pattern) fragment.first fragment.anchor)) (sym c.excludes.ensures.code) known.code;
+        far = c.excludes.ensures.far ∙ known.far;
+      },
+      c.excludes.ensures.looked,
+      omega (arith, c.excludes.ensures.on, c.in_ok-place-2.ensures.1),
+    )
 
 pub returns : goal.returns
 returns g c f s =
     let xs = codes_of g.R.Element.Kind.alphabet (g.R.Reading.elements c.args.reading.now) in
     let codes = c.as_slice-codes.ensures.value in
-    best_ends c.args.sequence.now c.args.fragment.now f s c.args.starts xs _ codes c.loop-fit.place c.loop-fit.last c.next_fit_up_to.result c.next_fit_up_to.ensures.first c.loop-fit.best c.in_default.is (c.loop-fit.invariant f s)
+    best_ends c.args.sequence.now c.args.fragment.now f s c.args.starts xs _ codes c.loop-fit.place c.loop-fit.last c.next_fit_up_to.result c.next_fit_up_to.ensures.first c.loop-fit.best c.in_default.is (c.loop-fit.invariant.0 f s)

@@ -1,0 +1,10 @@
+-- The span so far and that of what is left give the span.
+use Rattle.std.proofs.Common.{◌≡◌, ◌+◌, ◌≤◌, min, drop}
+use Rattle.kinds.specs.Spans.{sum_span}
+use Rattle.engine.specs.Parts.{items_in}
+use Rattle.engine.proofs.opening.span_of.Given as goal
+
+abbrev pub invariant-loop-placed : goal.invariant-loop-placed
+invariant-loop-placed l =
+    (l.span ≤ 1023)
+    × (min 1023 (l.span + sum_span (items_in l.pattern (drop l.placed-index l.parts))) ≡ min 1023 (sum_span (items_in l.pattern l.parts)))

@@ -170,16 +170,16 @@ fn pass_group<R: Reading>(pattern: &Pattern, runs: &[Run], row: &mut Row, readin
     *row = all;
 }
 
-// Moves a row on behind a part.
-fn pass_part<R: Reading>(pattern: &Pattern, part: Part, row: &mut Row, reading: &R)
+// The row behind a part, from the row before it.
+fn pass_part<R: Reading>(pattern: &Pattern, part: Part, mut row: Row, reading: &R) -> Row
     requires { HasPart pattern.now part }
-    ensures { Stepped (item_in pattern.now part) row.old (codes_of R.Element.alphabet (R.elements reading.now)) row.new }
+    ensures { Stepped (item_in pattern.now part) row (codes_of R.Element.alphabet (R.elements reading.now)) result }
 {
     match part {
-        Part::Literal(code) => pass_literal(code, row, reading),
-        Part::Any => pass_any(row, reading),
+        Part::Literal(code) => pass_literal(code, &mut row, reading),
+        Part::Any => pass_any(&mut row, reading),
         Part::Group { first, count } => {
-            pass_group(pattern, pattern.runs_of(first, count), row, reading);
+            pass_group(pattern, pattern.runs_of(first, count), &mut row, reading);
         }
         Part::Range {
             direction,
@@ -193,11 +193,12 @@ fn pass_part<R: Reading>(pattern: &Pattern, part: Part, row: &mut Row, reading: 
                 low: pattern.run_codes(low),
                 high: pattern.run_codes(high),
             };
-            range.pass(row, reading);
+            range.pass(&mut row, reading);
         }
-        Part::Other(run) => RunRange::of_one(false, pattern.run_codes(run)).pass(row, reading),
-        Part::Gap(gap) => pass_gap(gap, row, reading),
+        Part::Other(run) => RunRange::of_one(false, pattern.run_codes(run)).pass(&mut row, reading),
+        Part::Gap(gap) => pass_gap(gap, &mut row, reading),
     }
+    row
 }
 
 // The offsets that the parts from `from` to before `to` reach. It is not inlined: `end_through` calls it within the search for
@@ -213,7 +214,7 @@ pub(crate) fn reach<R: Reading>(pattern: &Pattern, from: usize, to: usize, readi
         if row.is_none() {
             break;
         }
-        pass_part(pattern, placed.part, &mut row, reading);
+        row = pass_part(pattern, placed.part, row, reading);
     }
     row
 }

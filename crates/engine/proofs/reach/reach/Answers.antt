@@ -26,8 +26,8 @@ returns-then-is_none g c =
     (subst (λ is. Reached is all c.loop-placed.row) (sym (bodies_append codes runs (take i ps) (drop i ps)) ∙ ap (λ l. bodies (items codes runs l)) (take-append-drop i ps))
     (row_stops (bodies (items codes runs (take i ps))) (bodies (items codes runs (drop i ps))) all c.loop-placed.row c.loop-placed.invariant c.if-is_none.ensures))
 
-pub pass_part-requires : goal.pass_part-requires
-pass_part-requires g c =
+pub pass_part-row-requires : goal.pass_part-row-requires
+pass_part-row-requires g c =
     let pattern = c.args.pattern.now in
     let codes = vec_items pattern.codes in
     let runs = vec_items pattern.runs in
@@ -47,8 +47,8 @@ loop-placed-preserved g c =
     let ps = take (c.args.to - c.args.from) (drop c.args.from c.as_slice.result.now) in
     let i = c.loop-placed.placed-index in
     let d : PlacedPart = record { place = 0; part = part.Literal 0 } in
-    subst (λ is. Reached is all c.pass_part.new.row) (sym (ap (λ l. bodies (items codes runs l)) (take_more ps i d c.loop-placed-test.true) ∙ bodies_append codes runs (take i ps) (get_or ps i d ∷ [])))
-    (row_more (bodies (items codes runs (take i ps))) (item_of codes runs (get_or ps i d).part) all c.loop-placed.row c.pass_part.new.row c.loop-placed.invariant c.pass_part.ensures)
+    subst (λ is. Reached is all c.pass_part-row.result) (sym (ap (λ l. bodies (items codes runs l)) (take_more ps i d c.loop-placed-test.true) ∙ bodies_append codes runs (take i ps) (get_or ps i d ∷ [])))
+    (row_more (bodies (items codes runs (take i ps))) (item_of codes runs (get_or ps i d).part) all c.loop-placed.row c.pass_part-row.result c.loop-placed.invariant c.pass_part-row.ensures)
 
 pub returns-after-loop-placed : goal.returns-after-loop-placed
 returns-after-loop-placed g c =

@@ -10,7 +10,7 @@ use Rattle.kinds.proofs.Anchors.{BestBefore, FirstFit, first_fit_exactly, anchor
 use Rattle.kinds.proofs.Searches.{least_end_is}
 use Rattle.engine.specs.Codes.{not_past, ShiftsOf}
 use Rattle.engine.specs.Finding.{smaller_of, Bounds, LeastThrough, Sides, part_of}
-use Rattle.engine.specs.Openings.{Closed, OpeningOf}
+use Rattle.engine.specs.Openings.{Excluded, OpeningOf}
 use Rattle.engine.specs.Reading.{held}
 use Rattle.engine.specs.Sequences.{Searches}
 use Rattle.engine.specs.declared.fragment.Fragment.{Fragment}
@@ -18,7 +18,7 @@ use Rattle.engine.specs.declared.opening.Opening.{Opening}
 use Rattle.engine.specs.declared.sequence.Sequence.{Sequence}
 use Rattle.engine.specs.declared.starts.Starts.{Starts}
 use Rattle.engine.proofs.Anchored.{codes_long, front_is, sides_of}
-use Rattle.engine.proofs.Openings.{through_closed}
+use Rattle.engine.proofs.Openings.{through_excluded}
 
 -- the least end through the places of an anchor before one, or none, where no place past the last one gives a smaller end
 pub record Best (a : Anchor) (starts : Starts) (xs : List ℕ) (place last : ℕ) (best : Option ℕ) : Type 0 where
@@ -92,11 +92,11 @@ module _ (sequence : Sequence) (f : Fragment) (g : spec.Fragment) (s : Searches 
       let inside = ((stands_decides a.codes xs q).0 x.stands).0 in
       (start.begins, start.early, omega (arith, sides.small.short, s.coded, start.spans.ordered), omega arith)
 
-  -- where the literal that the fragment begins with stands nowhere near enough before a place, nothing ends through an anchor there
-  pub none_through : (o : Opening) (p : ℕ) → OpeningOf (part_of (held sequence.pattern) f.first f.anchor) o → Closed o xs p → LeastThrough a starts xs p None
+  -- where the literal that the fragment begins with does not stand near enough before a place, nothing ends through an anchor there
+  pub none_through : (o : Opening) (p : ℕ) → OpeningOf (part_of (held sequence.pattern) f.first f.anchor) o → Excluded o xs p → LeastThrough a starts xs p None
   none_through o p opening =
       let front = front_is sequence.offsets.reference (held sequence.pattern) (held sequence.mirror) f g s in
-      through_closed a starts xs p o (subst (λ is. OpeningOf is o) (sym front) opening) sides.small.front_bounded (omega (arith, sides.small.short, s.coded))
+      through_excluded a starts xs p o (subst (λ is. OpeningOf is o) (sym front) opening) sides.small.front_bounded (omega (arith, sides.small.short, s.coded))
 
   -- no place before the first one, and none past the last
   pub best_begins : (place last : ℕ) → place ≡ starts.from + f.lead → length xs ≤ 4294967295

@@ -1,13 +1,14 @@
 -- What follows where the literal that a fragment begins with does not stand before an anchor.
-use Rattle.std.proofs.Common.{◌≡◌, ℕ, zero, suc, ◌-◌, ◌<◌, List, [], ◌∷◌, ◌++◌, length, take, drop, Some, None, ap, ◌∙◌, subst, arith}
+use Rattle.std.proofs.Common.{◌≡◌, ℕ, zero, suc, ◌-◌, ◌<◌, List, [], ◌∷◌, ◌++◌, length, take, drop, Some, None, sym, ap, ◌∙◌, subst, arith}
 use Rattle.std.specs.List.{AllByRecursion as All, slice_get}
+use Rattle.std.proofs.lemmas.Option.{none-some}
 use Rattle.kinds.specs.Fragments.{Anchor}
-use Rattle.kinds.specs.Patterns.{Cut}
+use Rattle.kinds.specs.Patterns.{literal, Cut, Item}
 use Rattle.kinds.specs.Search.{stretch}
 use Rattle.kinds.specs.Spans.{Bounded, sum_span}
-use Rattle.kinds.proofs.Anchors.{spans_at_most}
+use Rattle.kinds.proofs.Anchors.{code_literal, spans_at_most}
 use Rattle.engine.specs.Finding.{LeastThrough}
-use Rattle.engine.specs.Openings.{Closed, OpeningOf, Opens, OpensBy}
+use Rattle.engine.specs.Openings.{opening_code, Excluded, Known, OpeningOf}
 use Rattle.engine.specs.declared.opening.Opening.{Opening}
 use Rattle.engine.specs.declared.starts.Starts.{Starts}
 
@@ -21,14 +22,24 @@ first_of (x ∷ xs) zero zero c rest e = absurd (omega (arith, ap length e))
 first_of (x ∷ xs) zero (suc n) c rest e = let there : x ≡ c = cc in (omega arith, ap Some there)
 first_of (x ∷ xs) (suc s) n c rest e = first_of xs s n c rest e
 
--- where the literal that the items before an anchor begin with stands nowhere near enough before a place, nothing ends through an anchor there
-pub through_closed : (a : Anchor) (starts : Starts) (xs : List ℕ) (p : ℕ) (o : Opening) → OpeningOf a.front o → All Bounded a.front → sum_span a.front < 1024
-    → Closed o xs p → LeastThrough a starts xs p None
-through_closed a starts xs p o opening bounded short (c, is, none) e h =
+-- items that begin with the literal of a code
+opens : (items : List Item) (c : ℕ) → opening_code items ≡ Some c → (others : List Item) × (items ≡ literal c ∷ others)
+opens [] c e = absurd (none-some c e)
+opens (i ∷ is) c e = (is, ap (λ x. x ∷ is) (code_literal i c e))
+
+-- where the literal that the items before an anchor begin with does not stand near enough before a place, nothing ends through an
+-- anchor there
+pub through_excluded : (a : Anchor) (starts : Starts) (xs : List ℕ) (p : ℕ) (o : Opening) → OpeningOf a.front o → All Bounded a.front → sum_span a.front < 1024
+    → Excluded o xs p → LeastThrough a starts xs p None
+through_excluded a starts xs p o opening bounded short (c, is, none) e h =
     let begins = h.before.begins in
     let spans = h.before.spans in
     let near = spans_at_most a.front xs begins p bounded spans in
-    let opens : Opens c a.front = subst (λ code. OpensBy code a.front) is opening.code in
-    let (run, rest, parts, here, more) = subst (λ is. Cut is (stretch xs begins p)) opens.begin spans.cut in
+    let (others, begin) = opens a.front c (sym opening.code ∙ is) in
+    let (run, rest, parts, here, more) = subst (λ items. Cut items (stretch xs begins p)) begin spans.cut in
     let (some, stands) = first_of xs begins (p - begins) c rest (parts ∙ ap (λ l. l ++ rest) here) in
     none begins (omega (arith, opening.far)) (omega arith) stands
+
+-- before the first look nothing is known, and nothing need be
+pub unlooked : (o : Opening) (xs : List ℕ) → o.after ≡ 0 → o.next ≡ 0 → Known o xs
+unlooked o xs after next code is = record { inside = omega arith; last = λ some. absurd (omega arith); none = λ q l m. absurd (omega arith) }

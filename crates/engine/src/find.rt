@@ -1,5 +1,5 @@
 // Finds the least end of a fragment's placements, from one place where its anchor stands to the next.
-ghost use Rattle.std.specs.Prelude.{◌≡◌, ℕ, ◌+◌, ◌<◌, ◌≤◌, true, ◌⊎◌, vec_len, Decides};
+ghost use Rattle.std.specs.Prelude.{◌≡◌, ℕ, ◌+◌, ◌<◌, true, ◌⊎◌, vec_len, Decides};
 ghost use Rattle.engine.specs.Codes.{codes_of};
 ghost use Rattle.engine.specs.Finding.{Bounds, LeastThrough, Sides};
 ghost use Rattle.engine.specs.Reading.{held};
@@ -77,8 +77,9 @@ fn last_useful(last: u32, best: Option<u64>, len: usize) -> u32
     })
 }
 
-// The least end of a fragment's placement that starts where it may, or none. At each place where the anchor stands, the least
-// end through it is taken, up to the last place that can give a smaller one.
+// The least end of a fragment's placement that starts where it may, or none. At each place where the anchor stands, unless the
+// literal that the fragment begins with does not stand near enough before it, the least end through it is taken, up to the last
+// place that can give a smaller one.
 pub(crate) fn least_end<R: Reading>(
     sequence: &Sequence,
     fragment: &Fragment,

@@ -1,5 +1,5 @@
 // How far items reach over a reading, as rows of offsets.
-ghost use Rattle.std.specs.Prelude.{◌≡◌, ℕ, ◌+◌, ◌<◌, ◌≤◌, true, false, List, map, length, vec_len};
+ghost use Rattle.std.specs.Prelude.{◌≡◌, ◌+◌, ◌≤◌, map, length, vec_len};
 ghost use Rattle.std.specs.Cmp.Lexicographic.{slice_cmp};
 ghost use Rattle.std.specs.List.{slice_get};
 ghost use Rattle.std.specs.Ordering.{nat_cmp};
@@ -165,12 +165,12 @@ fn pass_group<R: Reading>(pattern: &Pattern, runs: &[Run], row: &mut Row, readin
     for run in runs {
         let mut on = *row;
         RunRange::of_one(true, pattern.run_codes(*run)).pass(&mut on, reading);
-        all = all.union(on);
+        all.join(&on);
     }
     *row = all;
 }
 
-// The row behind a part, from the row before it.
+// One step: the row behind a part, from the row before it.
 fn pass_part<R: Reading>(pattern: &Pattern, part: Part, mut row: Row, reading: &R) -> Row
     requires { HasPart pattern.now part }
     ensures { Stepped (item_in pattern.now part) row (codes_of R.Element.alphabet (R.elements reading.now)) result }

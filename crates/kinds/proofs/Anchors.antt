@@ -34,7 +34,7 @@ ended_splits items front [] back e = tt
 ended_splits items front (c ∷ cs) back e = ((omega arith, e), tt)
 
 -- an item with a code is that literal
-code_literal : (i : Item) (c : ℕ) → literal_code i ≡ Some c → i ≡ literal c
+pub code_literal : (i : Item) (c : ℕ) → literal_code i ≡ Some c → i ≡ literal c
 code_literal (literal d) c e = cc
 code_literal any c e = cc
 code_literal (group runs) c e = cc

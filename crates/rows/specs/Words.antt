@@ -5,12 +5,12 @@ use Rattle.std.specs.Prelude.{◌≡◌, ℕ, ◌/◌, ◌%◌, ◌^◌, ◌<◌
 unfoldable pub bit : ℕ → ℕ → Bool
 bit w k = w / 2 ^ k % 2 == 1
 
--- every word from the n-th on is 0
+-- every word from word n on is 0
 abbrev pub ZeroFrom : List ℕ → ℕ → Type 0
 ZeroFrom words n = (k : ℕ) → n ≤ k → slice_index words k ≡ 0
 
 -- word i is the first that is not 0
-pub record FirstUsed (words : List ℕ) (i : ℕ) : Type 0 where
+pub record FirstNonzero (words : List ℕ) (i : ℕ) : Type 0 where
   pub within : i < length words
-  pub used : 0 < slice_index words i
+  pub positive : 0 < slice_index words i
   pub before : (k : ℕ) → k < i → slice_index words k ≡ 0

@@ -1,8 +1,8 @@
 // Sets of offsets below 1,024, as rows of bits.
 #![tactic(auto)]
 
-ghost use Rattle.std.specs.Prelude.{◌≡◌, ℕ, ◌+◌, ◌-◌, ◌*◌, ◌/◌, ◌%◌, ◌<◌, ◌≤◌, Bool, true, false, not, ◌&&◌, ◌||◌, if◌then◌else◌, MatchBool, MatchOption, ◌==◌, nat_le, nat_lt, slice_index, length};
-ghost use Rattle.rows.specs.Words.{bit, FirstUsed, ZeroFrom};
+ghost use Rattle.std.specs.Prelude.{◌≡◌, ℕ, ◌+◌, ◌-◌, ◌*◌, ◌<◌, ◌≤◌, Bool, true, false, not, ◌&&◌, ◌||◌, if◌then◌else◌, MatchBool, MatchOption, ◌==◌, nat_le, nat_lt, slice_index, length};
+ghost use Rattle.rows.specs.Words.{bit, FirstNonzero, ZeroFrom};
 
 // How many offsets there are.
 const WIDTH: usize = 1024;
@@ -12,9 +12,9 @@ const WORDS: usize = WIDTH / 64;
 
 // A set of offsets below 1,024: offset k is bit k % 64 of word k / 64. The words from `used` on are 0, and no loop goes over
 // them.
-#[derive(Clone, Copy)]
+#[derive(Clone, Copy, Debug)]
 pub struct Row {
-    pub words: [u64; WORDS],
+    words: [u64; WORDS],
     used: usize,
     ghost within: { used ≤ 16 },
     ghost past: { ZeroFrom words used },
@@ -51,16 +51,8 @@ impl Row {
         k < WIDTH && self.words[k / 64] >> (k % 64) & 1 == 1
     }
 
-    // The members of either.
-    pub fn union(mut self, other: Row) -> Row
-        ensures { (j : ℕ) → member result j ≡ (member self j || member other j) }
-    {
-        self.join(&other);
-        self
-    }
-
-    // Adds the members of the other.
-    fn join(&mut self, other: &Row)
+    // Adds the members of another row.
+    pub fn join(&mut self, other: &Row)
         ensures { (j : ℕ) → member self.new j ≡ (member self.old j || member other.now j) }
     {
         self.used = self.used.max(other.used);
@@ -179,7 +171,7 @@ impl Row {
         if word != 0 {
             return Some(from + word.trailing_zeros() as usize);
         }
-        let i = edge + 1 + first_used(&self.words[edge + 1..self.used])?;
+        let i = edge + 1 + first_nonzero(&self.words[edge + 1..self.used])?;
         Some(64 * i + self.words[i].trailing_zeros() as usize)
     }
 
@@ -192,8 +184,8 @@ impl Row {
 }
 
 // Where the first word that is not 0 stands.
-fn first_used(words: &[u64]) -> Option<usize>
-    ensures { MatchOption result ((k : ℕ) → k < length words.now → slice_index words.now k ≡ 0) (FirstUsed words.now) }
+fn first_nonzero(words: &[u64]) -> Option<usize>
+    ensures { MatchOption result ((k : ℕ) → k < length words.now → slice_index words.now k ≡ 0) (FirstNonzero words.now) }
 {
     words.iter().position(|word| *word != 0)
 }

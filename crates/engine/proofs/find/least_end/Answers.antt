@@ -4,11 +4,9 @@ use Rattle.std.proofs.lemmas.Bool.{both_ways}
 use Rattle.kinds.specs.Fragments.{anchor, bodies}
 use Rattle.kinds.specs.Spans.{NoLess}
 use Rattle.engine.specs.Codes.{codes_of}
-use Rattle.engine.specs.Finding.{part_of}
-use Rattle.engine.specs.Openings.{OpensBy}
-use Rattle.engine.specs.Reading.{held}
 use Rattle.engine.specs.Stored.{placed_of}
 use Rattle.engine.proofs.Least.{sides, bounds_of, best_begins, none_begins, best_ends, next_before, best_next, best_stays, none_through}
+use Rattle.engine.proofs.Openings.{unlooked}
 use Rattle.engine.proofs.Smallest.{smaller_ends}
 use Rattle.engine.proofs.find.least_end.Goals as goal
 use Rattle.engine.proofs.find.least_end.Goals.{then-not-excludes, else-not-excludes}
@@ -37,7 +35,7 @@ loop-fit-init g c = (
       best_begins c.args.sequence.now c.args.fragment.now f s c.args.starts
       (codes_of g.R.Element.Kind.alphabet (g.R.Reading.elements c.args.reading.now)) c.in_ok-place.place c.last_place-last.result c.in_ok-place.ensures (omega arith) c.last_place-last.ensures,
   c.of-opening.ensures.opening,
-  c.of-opening.ensures.looked (codes_of g.R.Element.Kind.alphabet (g.R.Reading.elements c.args.reading.now)),
+  unlooked c.of-opening.result (codes_of g.R.Element.Kind.alphabet (g.R.Reading.elements c.args.reading.now)) c.of-opening.ensures.after c.of-opening.ensures.next,
   omega (arith, c.of-opening.ensures.next),
 )
 
@@ -73,15 +71,15 @@ loop-fit-preserved g c =
                 rw (w.last-is, w.best-is)
                 (best_stays sequence fragment f s starts xs _ codes c.loop-fit.place c.loop-fit.last c.next_fit_up_to.result c.next_fit_up_to.ensures.first
                 c.in-Some.fit c.in-Some.is c.loop-fit.best c.in_ok-place-2.place
-                (none_through sequence fragment f s starts xs c.loop-fit.opening c.in-Some.fit known (c.excludes.ensures.closed.0 w.if-not-excludes.false))
+                (none_through sequence fragment f s starts xs c.loop-fit.opening c.in-Some.fit known (c.excludes.ensures.excluded.0 w.if-not-excludes.false))
                 c.in_ok-place-2.ensures.1 (c.loop-fit.invariant.0 f s))
           ],
       record {
-        code = subst (λ code. OpensBy code (part_of (held sequence.pattern) fragment.first fragment.anchor)) (sym c.excludes.ensures.code) known.code;
+        code = c.excludes.ensures.code ∙ known.code;
         far = c.excludes.ensures.far ∙ known.far;
       },
-      c.excludes.ensures.looked,
-      omega (arith, c.excludes.ensures.on, c.in_ok-place-2.ensures.1),
+      c.excludes.ensures.known,
+      omega (arith, c.excludes.ensures.next, c.in_ok-place-2.ensures.1),
     )
 
 pub returns : goal.returns

@@ -3,7 +3,7 @@ use Rattle.kinds.specs.Fragments as spec
 use Rattle.kinds.specs.Fragments.{anchor, bodies}
 use Rattle.engine.specs.Codes.{codes_of}
 use Rattle.engine.specs.Finding.{part_of}
-use Rattle.engine.specs.Openings.{Looked, OpeningOf}
+use Rattle.engine.specs.Openings.{Known, OpeningOf}
 use Rattle.engine.specs.Reading.{held}
 use Rattle.engine.specs.Sequences.{Searches}
 use Rattle.engine.proofs.Least.{Best}
@@ -15,7 +15,7 @@ invariant-loop-fit g l =
     ((f : spec.Fragment) → Searches l.sequence l.fragment f
     → Best (anchor l.sequence.offsets.reference (bodies f.body)) l.starts (codes_of g.R.Element.Kind.alphabet (g.R.Reading.elements l.reading)) l.place l.last l.best)
     × OpeningOf (part_of (held l.sequence.pattern) l.fragment.first l.fragment.anchor) l.opening
-    × Looked l.opening (codes_of g.R.Element.Kind.alphabet (g.R.Reading.elements l.reading))
+    × Known l.opening (codes_of g.R.Element.Kind.alphabet (g.R.Reading.elements l.reading))
     × (l.opening.next ≤ l.place)
 
 -- how many places are left

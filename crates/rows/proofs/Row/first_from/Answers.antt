@@ -31,7 +31,7 @@ returns c =
     let first = c.in_ok-i.ensures in
     let within = first.within in
     let few : i < 16 = grind (arith, common_steps) in
-    let used : 0 < get_or row.words i 0 = let e = first.used in grind (arith, common_steps, e) in
+    let used : 0 < get_or row.words i 0 = let e = first.positive in grind (arith, common_steps, e) in
     first_in row from i 0 (get_or row.words i 0) (64 * i) (omega arith) (omega arith) (omega arith) (search rules)
     (sym (div-one (get_or row.words i 0))) used (omega arith)
     (none_between row from behind (omega arith) c.if-word-ne0.false (omega arith)

@@ -3,15 +3,15 @@ use Rattle.std.proofs.Common.{◌≡◌, ◌-◌, min, take, drop, vec_items, ap
 use Rattle.kinds.specs.Fragments.{bodies}
 use Rattle.kinds.specs.Spans.{sum_span}
 use Rattle.engine.specs.Finding.{part_of}
-use Rattle.engine.specs.Openings.{OpensBy}
+use Rattle.engine.specs.Openings.{opening_code}
 use Rattle.engine.specs.Parts.{items_in, HasParts}
 use Rattle.engine.specs.Reading.{held}
 use Rattle.engine.proofs.Assembling.{items_between}
 use Rattle.engine.proofs.Lengths.{parts_take_within, parts_drop_within}
 use Rattle.engine.proofs.opening.Opening.of.Goals as goal
 
-pub span_of-requires : goal.span_of-requires
-span_of-requires c =
+pub far_of-requires : goal.far_of-requires
+far_of-requires c =
     let pattern = c.args.pattern.now in
     let codes = vec_items pattern.codes in
     let runs = vec_items pattern.runs in
@@ -30,6 +30,6 @@ returns-clause-opening c =
     let front : items_in pattern (take n (drop first c.deref.result.now)) ≡ part_of (held pattern) first c.args.fragment.now.anchor =
     ap (λ ps. items_in pattern (take n (drop first ps))) c.deref.ensures.value ∙ ap bodies (items_between codes runs (vec_items pattern.parts) first n) in
     record {
-      code = subst (OpensBy c.first_code.result) front c.first_code.ensures;
-      far = c.span_of.ensures ∙ ap (λ is. min 1023 (sum_span is)) front;
+      code = c.first_code.ensures pattern ∙ ap opening_code front;
+      far = c.far_of.ensures ∙ ap (λ is. min 1023 (sum_span is)) front;
     }

@@ -5,7 +5,7 @@ use engine::text::compiled;
 use kinds::backward::Backward;
 use kinds::byte::Byte;
 use kinds::held::Held;
-use kinds::pattern::{Offsets, Reference};
+use patterns::Reference;
 use kinds::reading::{Order, Reading};
 use std::process::ExitCode;
 use std::{env, fs, io};

@@ -1,13 +1,13 @@
 -- The anchor of a compiled fragment among the items of its pattern: how long it is, and what stands before and behind it.
 use Rattle.std.proofs.Common.{◌≡◌, ℕ, zero, suc, ◌+◌, ◌-◌, ◌≤◌, List, [], ◌∷◌, ◌++◌, length, take, drop, vec_len, sym, refl, ap, ◌∙◌, ap₂, arith, length-append, length-drop, length-take}
 use Rattle.std.proofs.lemmas.List.{append_assoc, take-append-drop, take-take, take_at, drop_at, drop-drop, drop-take, take_all}
-use Rattle.kinds.specs.Fragments as spec
-use Rattle.kinds.specs.Fragments.{Anchor, anchor, bodies, mirrored_placed}
-use Rattle.kinds.specs.Grammar.{Placed}
-use Rattle.kinds.specs.Patterns.{mirrored, mirrored_item}
-use Rattle.kinds.specs.declared.pattern.Reference.{Reference}
-use Rattle.kinds.proofs.Anchors.{anchor_splits, small_parts}
-use Rattle.kinds.proofs.Backs.{bodies_mirrored, mirrored_placed_append}
+use Rattle.patterns.specs.Fragments as spec
+use Rattle.patterns.specs.Fragments.{Anchor, anchor, bodies, mirrored_placed}
+use Rattle.patterns.specs.Grammar.{Placed}
+use Rattle.patterns.specs.Patterns.{mirrored, mirrored_item}
+use Rattle.patterns.specs.declared.reference.Reference.{Reference}
+use Rattle.patterns.proofs.Anchors.{anchor_splits, small_parts}
+use Rattle.patterns.proofs.Backs.{bodies_mirrored, mirrored_placed_append}
 use Rattle.engine.specs.Finding.{part_of, Sides}
 use Rattle.engine.specs.Searched.{Searched}
 use Rattle.engine.specs.declared.fragment.Fragment.{Fragment}

@@ -2,10 +2,10 @@
 use Rattle.std.proofs.Common.{◌≡◌, ℕ, suc, ◌+◌, ◌-◌, ◌<◌, ◌≤◌, Bool, true, false, cond, ◌&&◌, ltb, leb, List, [], ◌∷◌, ◌++◌, map, length, get_or, take, drop, Some, None, sym, refl, ap, ◌∙◌, subst, arith, length-append, length-drop, length-take, take-add}
 use Rattle.std.proofs.lemmas.List.{drop_more, take_all, drop_all, append-nil}
 use Rattle.std.proofs.lemmas.Bool.{lt-ltb, cond_both}
-use Rattle.kinds.specs.Fragments.{Anchor, anchor, best, ended, literal_runs, literal_code}
-use Rattle.kinds.specs.Patterns.{Item, literal, any, group, range, other, gap}
-use Rattle.kinds.specs.declared.pattern.Reference.{Reference}
-use Rattle.kinds.specs.declared.pattern.Reference.TheVariants.{Front, Back, Anywhere}
+use Rattle.patterns.specs.Fragments.{Anchor, anchor, best, ended, literal_runs, literal_code}
+use Rattle.patterns.specs.Patterns.{Item, literal, any, group, range, other, gap}
+use Rattle.patterns.specs.declared.reference.Reference.{Reference}
+use Rattle.patterns.specs.declared.reference.Reference.TheVariants.{Front, Back, Anywhere}
 use Rattle.engine.specs.Compiled.{literal_codes, anchor_at}
 use Rattle.engine.specs.Compiling.{LiteralRun, Anchors, replaces}
 use Rattle.engine.specs.declared.compile.Literals.{Literals}

@@ -3,11 +3,11 @@ use Rattle.std.proofs.Common.{◌≡◌, ℕ, ◌+◌, ◌-◌, ◌<◌, ◌≤�
 use lib.ListN.{length-map}
 use Rattle.std.proofs.lemmas.List.{append_assoc, drop-drop, take-map, drop-map, take_rest}
 use Rattle.std.specs.Global.{Vec}
-use Rattle.kinds.specs.Fragments as spec
-use Rattle.kinds.specs.Fragments.{Anchor, anchor, bodies, cut_from, sum_least, lead, shift}
-use Rattle.kinds.specs.Grammar.{Placed}
-use Rattle.kinds.specs.Patterns.{Item}
-use Rattle.kinds.specs.declared.pattern.Reference.{Reference}
+use Rattle.patterns.specs.Fragments as spec
+use Rattle.patterns.specs.Fragments.{Anchor, anchor, bodies, cut_from, sum_least, lead, shift}
+use Rattle.patterns.specs.Grammar.{Placed}
+use Rattle.patterns.specs.Patterns.{Item}
+use Rattle.patterns.specs.declared.reference.Reference.{Reference}
 use Rattle.engine.specs.Compiled.{literal_codes, anchor_at, Holds, Hold}
 use Rattle.engine.specs.Compiling.{part_codes, part_items, Anchors, Shifts, Cuts}
 use Rattle.engine.specs.Reading.{held}

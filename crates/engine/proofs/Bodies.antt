@@ -2,8 +2,8 @@
 use Rattle.std.proofs.Common.{◌≡◌, ℕ, zero, suc, ◌+◌, ◌-◌, ◌<◌, ◌≤◌, List, [], ◌∷◌, ◌++◌, length, get_or, take, drop, Some, None, Option, refl, ap, ◌∙◌, suc-le-suc, arith, length-drop}
 use Rattle.std.proofs.lemmas.List.{take_more, get_or-drop}
 use Rattle.std.specs.List.{cons_option}
-use Rattle.kinds.specs.Fragments.{literal_code}
-use Rattle.kinds.specs.Patterns.{any}
+use Rattle.patterns.specs.Fragments.{literal_code}
+use Rattle.patterns.specs.Patterns.{any}
 use Rattle.engine.specs.Compiled.{literal_codes}
 use Rattle.engine.specs.Compiling.{part_code, part_codes, part_items}
 use Rattle.engine.specs.Stored.{item_of}

@@ -1,10 +1,10 @@
 -- What the reader of texts does with a character, by its class where something is expected.
 use Rattle.std.proofs.Common.{◌≡◌, ℕ, ◌+◌, ◌<◌, Bool, true, false, cond, List, length, get_or, drop, Some, None, sym, refl, ap, ◌∙◌, subst, arith, Bor}
 use Rattle.kinds.specs.Alphabet.{Alphabet, Lawful}
-use Rattle.kinds.specs.Grammar.{start, after_thing, after_gap}
-use Rattle.kinds.specs.Patterns.{any, gap}
-use Rattle.kinds.specs.Reader.{State, between, asked, half, alternatives, bracket, low, high, digits, endless, Next, stuck, goes_on, complete, leads, with_code, with_element, pair_in, next, follow}
-use Rattle.kinds.specs.Reader.{least as lower}
+use Rattle.patterns.specs.Grammar.{start, after_thing, after_gap}
+use Rattle.patterns.specs.Patterns.{any, gap}
+use Rattle.patterns.specs.Reader.{State, between, asked, half, alternatives, bracket, low, high, digits, endless, Next, stuck, goes_on, complete, leads, with_code, with_element, pair_in, next, follow}
+use Rattle.patterns.specs.Reader.{least as lower}
 use Rattle.engine.specs.Scanning.{standing, GoesOn}
 use Rattle.engine.specs.Tokens.{expected, class_of, character, continued, Completes, ReadsToken}
 use Rattle.engine.specs.declared.token.Class.{Class}
@@ -15,8 +15,8 @@ use Rattle.engine.specs.declared.token.Gap.{Gap}
 use Rattle.engine.specs.declared.token.Punctuation.{Punctuation}
 use Rattle.engine.specs.declared.token.Token.TheVariants as token
 use Rattle.engine.proofs.Gaps.{stands_true}
-use Rattle.kinds.proofs.Texts.{pair_leads}
-use Rattle.kinds.proofs.Steps.{only_true}
+use Rattle.patterns.proofs.Texts.{pair_leads}
+use Rattle.patterns.proofs.Steps.{only_true}
 use Rattle.engine.proofs.Machine.{step_by}
 
 -- what is expected in a state is one thing

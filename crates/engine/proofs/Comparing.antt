@@ -18,11 +18,11 @@ use Rattle.std.proofs.lemmas.Option.{slice_get-get_or}
 use Rattle.std.proofs.lemmas.Bool.{eq-eqb}
 use Rattle.std.proofs.lemmas.Bool.Decides.{nat_tests}
 use Rattle.std.proofs.lemmas.Cmp.{same_from_slice_cmp}
-use Rattle.kinds.specs.Patterns.{compared, between, matches, range, up_to}
-use Rattle.kinds.specs.Search.{stretch}
-use Rattle.kinds.specs.declared.pattern.Direction.{Direction}
-use Rattle.kinds.specs.declared.pattern.Direction.TheVariants.{FirstOn, LastOn}
-use Rattle.kinds.proofs.Searches.{length_stretch}
+use Rattle.patterns.specs.Patterns.{compared, between, matches, range, up_to}
+use Rattle.patterns.specs.Search.{stretch}
+use Rattle.patterns.specs.declared.direction.Direction.{Direction}
+use Rattle.patterns.specs.declared.direction.Direction.TheVariants.{FirstOn, LastOn}
+use Rattle.patterns.proofs.Searches.{length_stretch}
 
 -- the codes at the places from one on
 codes_from : (xs : List ℕ) (at n : ℕ) → at + n ≤ length xs → filter_map (slice_get xs) (range_with_len at n) ≡ take n (drop at xs)

@@ -2,11 +2,11 @@
 use Rattle.std.proofs.Common.{◌≡◌, ℕ, ◌+◌, ◌-◌, ◌<◌, ◌≤◌, Bool, true, false, not, ◌||◌, List, [], ◌∷◌, ◌++◌, length, get_or, take, drop, is_some, Some, None, Option, sym, refl, ap, ◌∙◌, arith, take-add}
 use Rattle.std.proofs.lemmas.List.{drop_more}
 use Rattle.std.proofs.lemmas.Bool.{both_ways}
-use Rattle.kinds.specs.Fragments.{Fragment, is_gap, endless, some, sum, least, cut_from}
-use Rattle.kinds.specs.Grammar.{Placed}
-use Rattle.kinds.specs.Patterns.{Item}
-use Rattle.kinds.specs.Patterns as pattern
-use Rattle.kinds.proofs.Backs.{sum_push}
+use Rattle.patterns.specs.Fragments.{Fragment, is_gap, endless, some, sum, least, cut_from}
+use Rattle.patterns.specs.Grammar.{Placed}
+use Rattle.patterns.specs.Patterns.{Item}
+use Rattle.patterns.specs.Patterns as pattern
+use Rattle.patterns.proofs.Backs.{sum_push}
 use Rattle.engine.specs.Compiling.{Cuts}
 use Rattle.engine.specs.Stored.{item_of}
 use Rattle.engine.specs.declared.part.Part.{Part}

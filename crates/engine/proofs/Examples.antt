@@ -1,6 +1,6 @@
 -- The worked examples, by computation.
 use Rattle.std.proofs.Common.{refl}
-use Rattle.kinds.specs.Reader.{some_below}
+use Rattle.patterns.specs.Reader.{some_below}
 use Rattle.engine.specs.Examples.{Examples}
 
 pub examples : Examples

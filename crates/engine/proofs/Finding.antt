@@ -2,12 +2,12 @@
 use Rattle.std.proofs.Common.{◌≡◌, ℕ, ◌+◌, ◌-◌, ◌<◌, ◌≤◌, Bool, true, false, MatchOption, ◌&&◌, ltb, leb, List, reverse, length, take, drop, Some, None, vec_len, Decides, Option, sym, ap, ◌∙◌, subst, ap₂, ⊎_elim, arith}
 use Rattle.std.specs.List.{AllByRecursion as All}
 use Rattle.std.proofs.lemmas.Bool.{both_ways, leb-true, le-leb, lt-ltb, and_parts, cases_lt}
-use Rattle.kinds.specs.Fragments.{Anchor}
-use Rattle.kinds.specs.Grammar.{Placed}
-use Rattle.kinds.specs.Patterns.{Item, AtMost, mirrored}
-use Rattle.kinds.specs.Search.{stands_at}
-use Rattle.kinds.specs.Spans.{Bounded, Spans, Ends, sum_span}
-use Rattle.kinds.proofs.Anchors.{spans_at_most, stands_decides, reach_left, reach_right, reach_on, ends_left}
+use Rattle.patterns.specs.Fragments.{Anchor}
+use Rattle.patterns.specs.Grammar.{Placed}
+use Rattle.patterns.specs.Patterns.{Item, AtMost, mirrored}
+use Rattle.patterns.specs.Search.{stands_at}
+use Rattle.patterns.specs.Spans.{Bounded, Spans, Ends, sum_span}
+use Rattle.patterns.proofs.Anchors.{spans_at_most, stands_decides, reach_left, reach_right, reach_on, ends_left}
 use Rattle.rows.specs.Rows.{member, NoneFrom, FirstFrom}
 use Rattle.rows.specs.declared.Row.{Row}
 use Rattle.engine.specs.Finding.{Reached, part_of, Start, Sides, LeastThrough}

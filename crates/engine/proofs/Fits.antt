@@ -8,12 +8,12 @@ use Rattle.std.proofs.lemmas.Option.{slice_get-get_or}
 use Rattle.std.proofs.lemmas.Bool.{leb-true, le-leb, lt-leb, eq-eqb, not-true, cases_lt, cond-true, cond-false, cond_both}
 use Rattle.std.proofs.lemmas.Bool.Decides.{Decides-and, Decides-like, Decides-not, not_from_Decides}
 use Rattle.kinds.specs.Alphabet.{Alphabet}
-use Rattle.kinds.specs.Fragments.{distances, smallest, shift}
-use Rattle.kinds.specs.Search.{stretch, stands_at, first_fit_from, first_fit}
-use Rattle.kinds.proofs.Anchors.{FirstFit, first_fit_exactly}
-use Rattle.kinds.proofs.Decisions.{same_decides}
+use Rattle.patterns.specs.Fragments.{distances, smallest, shift}
+use Rattle.patterns.specs.Search.{stretch, stands_at, first_fit_from, first_fit}
+use Rattle.patterns.proofs.Anchors.{FirstFit, first_fit_exactly}
+use Rattle.patterns.proofs.Decisions.{same_decides}
 use Rattle.kinds.proofs.Places.{nth_none}
-use Rattle.kinds.proofs.Searches.{length_stretch}
+use Rattle.patterns.proofs.Searches.{length_stretch}
 use Rattle.engine.specs.Codes.{codes_of, not_past, ShiftsOf}
 
 -- Codes of elements.

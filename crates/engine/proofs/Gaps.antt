@@ -2,12 +2,12 @@
 use Rattle.std.proofs.Common.{◌≡◌, ℕ, ◌+◌, ◌<◌, true, false, eqb, ltb, List, length, get_or, drop, Some, None, Option, refl, ap, ◌∙◌, ⊎_elim, arith}
 use Rattle.std.proofs.lemmas.Bool.{eqb-true, ltb-true, lt-ltb, ne_eqb, and_parts, and_cases, and_left, and_right, and_from, both_ways}
 use Rattle.kinds.specs.Alphabet.{Alphabet, within}
-use Rattle.kinds.specs.Patterns.{Item, gap}
-use Rattle.kinds.specs.Reader.{digits, endless, Numeral, stuck, goes_on, complete, closed, behind_digits, next, follow}
-use Rattle.kinds.specs.Reader.{least as lower, most as upper}
+use Rattle.patterns.specs.Patterns.{Item, gap}
+use Rattle.patterns.specs.Reader.{digits, endless, Numeral, stuck, goes_on, complete, closed, behind_digits, next, follow}
+use Rattle.patterns.specs.Reader.{least as lower, most as upper}
 use Rattle.engine.specs.Scanning.{standing, LongestNumber}
 use Rattle.engine.specs.Tokens.{continued, Completes, Stops}
-use Rattle.kinds.proofs.Steps.{only_true}
+use Rattle.patterns.proofs.Steps.{only_true}
 use Rattle.engine.proofs.Machine.{only_false, next_behind_digits, next_closed, step_by, stops_here, number_run}
 
 module _ (t : List ℕ) (place c : ℕ) where

@@ -2,9 +2,9 @@
 use Rattle.std.proofs.Common.{◌≡◌, ℕ, false, List, [], ◌∷◌, ◌++◌, drop, Some, Ok, Err, vec_items, is_ok, MatchResult, Option, Result, sym, refl, ap, ◌∙◌, subst, ⊎_elim, append_assoc, arith}
 use Rattle.std.proofs.lemmas.Bool.{cases_Bool, both_ways}
 use Rattle.kinds.specs.Alphabet.{Alphabet, Lawful, alphanumeric}
-use Rattle.kinds.specs.Grammar.{Placed, behind}
-use Rattle.kinds.specs.Reader.{State, between, asked, half, alternatives, bracket, low, high, digits, endless, leads, with_code, next, in_front, follow, items_of}
-use Rattle.kinds.proofs.Texts.{leads_alphanumeric}
+use Rattle.patterns.specs.Grammar.{Placed, behind}
+use Rattle.patterns.specs.Reader.{State, between, asked, half, alternatives, bracket, low, high, digits, endless, leads, with_code, next, in_front, follow, items_of}
+use Rattle.patterns.proofs.Texts.{leads_alphanumeric}
 use Rattle.engine.specs.Contexts.{nameless, expects_in, context_behind, state_of, state_in, step_of, ContextWithin, StepsTo, PartPushed}
 use Rattle.engine.specs.Reading.{held}
 use Rattle.engine.specs.Stored.{item_of}

@@ -1,13 +1,13 @@
 -- The least end of a fragment's placement, from one place where its anchor stands to the next.
 use Rattle.std.proofs.Common.{◌≡◌, ℕ, ◌+◌, ◌<◌, ◌≤◌, min, true, leb, ◌⊎◌, inl, refl, List, length, Some, None, vec_items, vec_len, Option, sym, ap, ◌∙◌, subst, ⊎_elim, arith}
 use Rattle.std.proofs.lemmas.Bool.{cases_lt, cond_both, leb-false}
-use Rattle.kinds.specs.Fragments as spec
-use Rattle.kinds.specs.Fragments.{Anchor, anchor, bodies}
-use Rattle.kinds.specs.Patterns.{AtMost}
-use Rattle.kinds.specs.Search.{first_fit, least_end, stands_at}
-use Rattle.kinds.specs.Spans.{Anchored, NoLess}
-use Rattle.kinds.proofs.Anchors.{BestBefore, FirstFit, first_fit_exactly, anchor_splits, stands_decides, spans_at_most, best_none, best_on, best_kept, best_more, best_all, best_least}
-use Rattle.kinds.proofs.Searches.{least_end_is}
+use Rattle.patterns.specs.Fragments as spec
+use Rattle.patterns.specs.Fragments.{Anchor, anchor, bodies}
+use Rattle.patterns.specs.Patterns.{AtMost}
+use Rattle.patterns.specs.Search.{first_fit, least_end, stands_at}
+use Rattle.patterns.specs.Spans.{Anchored, NoLess}
+use Rattle.patterns.proofs.Anchors.{BestBefore, FirstFit, first_fit_exactly, anchor_splits, stands_decides, spans_at_most, best_none, best_on, best_kept, best_more, best_all, best_least}
+use Rattle.patterns.proofs.Searches.{least_end_is}
 use Rattle.engine.specs.Codes.{not_past, ShiftsOf}
 use Rattle.engine.specs.Finding.{smaller_of, Bounds, LeastThrough, Sides, part_of}
 use Rattle.engine.specs.Openings.{Excluded, OpeningOf}

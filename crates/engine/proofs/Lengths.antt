@@ -2,7 +2,7 @@
 use Rattle.std.proofs.Common.{◌≡◌, ℕ, zero, suc, ◌<◌, min, max, true, List, [], ◌∷◌, map, length, get_or, take, drop, unwrap_or, sym, refl, ap, ◌∙◌, ap₂, suc-le-suc, arith}
 use Rattle.std.specs.List.{fold, reduce}
 use Rattle.std.proofs.lemmas.Bool.{and_parts, and_from}
-use Rattle.kinds.specs.Fragments.{shortest, longest}
+use Rattle.patterns.specs.Fragments.{shortest, longest}
 use Rattle.engine.specs.Stored.{run_codes, run_within, all_runs_within, part_within, all_parts_within}
 use Rattle.engine.specs.declared.part.PlacedPart.{PlacedPart}
 use Rattle.engine.specs.declared.run.Run.{Run}

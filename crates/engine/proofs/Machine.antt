@@ -3,10 +3,10 @@ use Rattle.std.proofs.Common.{◌≡◌, ℕ, suc, ◌+◌, ◌-◌, ◌*◌, �
 use Rattle.std.proofs.lemmas.List.{drop_more, drop_all, drop-drop}
 use Rattle.std.proofs.lemmas.Bool.{cases_lt, cond-true, cond-false, lt-ltb, le-ltb, ne_eqb, and_left}
 use Rattle.kinds.specs.Alphabet.{Alphabet, within}
-use Rattle.kinds.specs.Grammar.{Digits, followed_by}
-use Rattle.kinds.specs.Reader.{State, digits, Numeral, Next, stuck, goes_on, complete, only_if, closed, behind_digits, next, finished, follow}
-use Rattle.kinds.specs.Reader.{least as lower, most as upper}
-use Rattle.kinds.proofs.Steps.{only_true}
+use Rattle.patterns.specs.Grammar.{Digits, followed_by}
+use Rattle.patterns.specs.Reader.{State, digits, Numeral, Next, stuck, goes_on, complete, only_if, closed, behind_digits, next, finished, follow}
+use Rattle.patterns.specs.Reader.{least as lower, most as upper}
+use Rattle.patterns.proofs.Steps.{only_true}
 use Rattle.engine.specs.Scanning.{LongestNumber}
 use Rattle.engine.specs.Tokens.{continued, Stops}
 

@@ -4,9 +4,9 @@ use mathlib.Core.List.{map-append, reverse-append, reverse-cons}
 use lib.ListN.{length-map, length-reverse}
 use Rattle.std.proofs.lemmas.List.{take_at, drop_at, take-map, drop-map}
 use Rattle.std.proofs.lemmas.Bool.{leb-true, le-leb, and_parts, and_from}
-use Rattle.kinds.specs.Fragments.{mirrored_placed}
-use Rattle.kinds.specs.Grammar.{Placed}
-use Rattle.kinds.specs.Patterns.{Item, group, range, other, turned, reversed_runs, mirrored_item}
+use Rattle.patterns.specs.Fragments.{mirrored_placed}
+use Rattle.patterns.specs.Grammar.{Placed}
+use Rattle.patterns.specs.Patterns.{Item, group, range, other, turned, reversed_runs, mirrored_item}
 use Rattle.engine.specs.Stored.{run_codes, item_of, placed_of, items, run_within, all_runs_within, part_within, all_parts_within}
 use Rattle.engine.specs.Turned.{turned_run, turned_part, turned_placed}
 use Rattle.engine.specs.declared.part.Part.{Part}

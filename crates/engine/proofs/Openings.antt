@@ -2,11 +2,11 @@
 use Rattle.std.proofs.Common.{◌≡◌, ℕ, zero, suc, ◌-◌, ◌<◌, List, [], ◌∷◌, ◌++◌, length, take, drop, Some, None, sym, ap, ◌∙◌, subst, arith}
 use Rattle.std.specs.List.{AllByRecursion as All, slice_get}
 use Rattle.std.proofs.lemmas.Option.{none-some}
-use Rattle.kinds.specs.Fragments.{Anchor}
-use Rattle.kinds.specs.Patterns.{literal, Cut, Item}
-use Rattle.kinds.specs.Search.{stretch}
-use Rattle.kinds.specs.Spans.{Bounded, sum_span}
-use Rattle.kinds.proofs.Anchors.{code_literal, spans_at_most}
+use Rattle.patterns.specs.Fragments.{Anchor}
+use Rattle.patterns.specs.Patterns.{literal, Cut, Item}
+use Rattle.patterns.specs.Search.{stretch}
+use Rattle.patterns.specs.Spans.{Bounded, sum_span}
+use Rattle.patterns.proofs.Anchors.{code_literal, spans_at_most}
 use Rattle.engine.specs.Finding.{LeastThrough}
 use Rattle.engine.specs.Openings.{opening_code, Excluded, Known, OpeningOf}
 use Rattle.engine.specs.declared.opening.Opening.{Opening}

@@ -4,16 +4,16 @@ use Rattle.std.specs.List.{slice_get}
 use Rattle.std.specs.Option.{option_eq}
 use Rattle.std.proofs.lemmas.Bool.Decides.{nat_tests, same_from_decides}
 use Rattle.std.proofs.lemmas.Bool.{and_from, and_parts, and_right, both_ways, cases_eq, cases_lt, le-leb, leb-true, lt-ltb, ltb-true, eq-eqb, eqb-true, or_cases, or_left, or_right}
-use Rattle.kinds.specs.declared.pattern.Direction.TheVariants.{FirstOn}
-use Rattle.kinds.specs.Patterns.{up_to, Item, literal, any, group, gap, range, other, matches, among, between, same, at_most}
-use Rattle.kinds.specs.declared.pattern.Direction.{Direction}
-use Rattle.kinds.specs.Search.{stretch, reaches}
-use Rattle.kinds.proofs.Anchors.{reaches_none, reaches_more}
-use Rattle.kinds.proofs.Searches.{length_stretch}
+use Rattle.patterns.specs.declared.direction.Direction.TheVariants.{FirstOn}
+use Rattle.patterns.specs.Patterns.{up_to, Item, literal, any, group, gap, range, other, matches, among, between, same, at_most}
+use Rattle.patterns.specs.declared.direction.Direction.{Direction}
+use Rattle.patterns.specs.Search.{stretch, reaches}
+use Rattle.patterns.proofs.Anchors.{reaches_none, reaches_more}
+use Rattle.patterns.proofs.Searches.{length_stretch}
 use Rattle.rows.specs.Rows.{member, moved, some_distance, FirstFrom, NoneFrom}
 use Rattle.rows.specs.declared.Row.{Row}
 use Rattle.rows.proofs.Distances.{reached, from_reached, one_distance}
-use Rattle.kinds.specs.Fragments.{bodies}
+use Rattle.patterns.specs.Fragments.{bodies}
 use Rattle.engine.specs.Finding.{Reached, part_of}
 use Rattle.engine.specs.Reading.{held}
 use Rattle.engine.specs.Stored.{item_of, items}

@@ -6,11 +6,11 @@ use Rattle.std.proofs.lemmas.Cmp.{same_from_slice_cmp}
 use Rattle.std.specs.Cmp.Lexicographic.{slice_cmp}
 use Rattle.std.specs.Ordering.{nat_cmp, is_lt}
 use Rattle.std.specs.declared.cmp.Ordering.{Ordering}
-use Rattle.kinds.specs.Fragments.{before}
-use Rattle.kinds.specs.Patterns.{compared, same, up_to}
-use Rattle.kinds.specs.declared.pattern.Direction.{Direction}
-use Rattle.kinds.specs.declared.pattern.Direction.TheVariants.{FirstOn, LastOn}
-use Rattle.kinds.proofs.Backs.{same_reversed}
+use Rattle.patterns.specs.Fragments.{before}
+use Rattle.patterns.specs.Patterns.{compared, same, up_to}
+use Rattle.patterns.specs.declared.direction.Direction.{Direction}
+use Rattle.patterns.specs.declared.direction.Direction.TheVariants.{FirstOn, LastOn}
+use Rattle.patterns.proofs.Backs.{same_reversed}
 use Rattle.engine.specs.Stored.{run_codes, run_within}
 use Rattle.engine.specs.declared.run.Run.{Run}
 

@@ -7,10 +7,10 @@ use Rattle.std.specs.List.{prefix_len}
 use Rattle.std.specs.Iterator.Runs.{Run, ItemsCountUp, AllItemsGive, AnyItemGives}
 use Rattle.std.specs.Option.{option_map}
 use denote.Param.Members.{Mut, Called}
-use Rattle.kinds.proofs.Texts.{some_below_decides}
+use Rattle.patterns.proofs.Texts.{some_below_decides}
 use Rattle.kinds.specs.Alphabet.{within}
-use Rattle.kinds.specs.Grammar.{Digits, followed_by}
-use Rattle.kinds.specs.Reader.{some_below}
+use Rattle.patterns.specs.Grammar.{Digits, followed_by}
+use Rattle.patterns.specs.Reader.{some_below}
 use Rattle.engine.specs.Scanning.{LongestNumber}
 
 -- an item that is there has what holds of some item and of every item

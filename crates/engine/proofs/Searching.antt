@@ -4,13 +4,13 @@ use mathlib.Core.Bool.{Bool-set}
 use mathlib.Core.List.{map-append, reverse-cons}
 use mathlib.Core.Logic.{∥∥₁_elim}
 use Rattle.std.proofs.lemmas.Bool.{cases_lt}
-use Rattle.kinds.specs.Fragments as spec
-use Rattle.kinds.specs.Fragments.{bodies, fragments}
-use Rattle.kinds.specs.Grammar.{Placed}
-use Rattle.kinds.specs.Patterns.{Item}
-use Rattle.kinds.specs.Search.{least_end, found}
-use Rattle.kinds.specs.declared.pattern.Reference.{Reference}
-use Rattle.kinds.proofs.Searches.{least_end_is}
+use Rattle.patterns.specs.Fragments as spec
+use Rattle.patterns.specs.Fragments.{bodies, fragments}
+use Rattle.patterns.specs.Grammar.{Placed}
+use Rattle.patterns.specs.Patterns.{Item}
+use Rattle.patterns.specs.Search.{least_end, found}
+use Rattle.patterns.specs.declared.reference.Reference.{Reference}
+use Rattle.patterns.proofs.Searches.{least_end_is}
 use Rattle.engine.specs.Reading.{held}
 use Rattle.engine.specs.Searched.{Searched}
 use Rattle.engine.specs.Sequences.{Searches}

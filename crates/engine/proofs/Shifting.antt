@@ -1,7 +1,7 @@
 -- The table of shifts, one code more at a time.
 use Rattle.std.proofs.Common.{◌≡◌, ℕ, suc, ◌+◌, ◌<◌, List, length, get_or, replicate, ap, ◌∙◌, arith}
 use Rattle.std.proofs.lemmas.List.{get_or-replicate}
-use Rattle.kinds.specs.Fragments.{distances, smallest, shift}
+use Rattle.patterns.specs.Fragments.{distances, smallest, shift}
 
 -- what a table's entry at an index is to become: above the number of the codes to come, and with them the shift
 abbrev pub Becomes : List ℕ → List ℕ → ℕ → ℕ → Type 0

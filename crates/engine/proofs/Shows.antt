@@ -2,9 +2,9 @@
 use Rattle.std.proofs.Common.{◌≡◌, ℕ, zero, suc, ◌-◌, ◌<◌, List, [], ◌∷◌, length, get_or, Some, None, vec_len, sym, refl, ap, ◌∙◌, arith}
 use Rattle.std.specs.List.{slice_get}
 use Rattle.std.specs.Option.{option_map}
-use Rattle.kinds.specs.Fragments as spec
-use Rattle.kinds.specs.Grammar.{Placed}
-use Rattle.kinds.specs.declared.pattern.Reference.{Reference}
+use Rattle.patterns.specs.Fragments as spec
+use Rattle.patterns.specs.Grammar.{Placed}
+use Rattle.patterns.specs.declared.reference.Reference.{Reference}
 use Rattle.engine.specs.Compiled.{Holds, Hold}
 use Rattle.engine.specs.Sequences.{numbers, shown}
 use Rattle.engine.specs.declared.fragment.Fragment.{Fragment}

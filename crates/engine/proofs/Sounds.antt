@@ -5,20 +5,20 @@ use mathlib.Core.Logic.{∥∥₁_elim}
 use Rattle.std.specs.List.{AllByRecursion as All}
 use Rattle.std.proofs.lemmas.Bool.{cases_Bool}
 use Rattle.kinds.specs.Alphabet.{Alphabet}
-use Rattle.kinds.specs.Fragments as spec
-use Rattle.kinds.specs.Fragments.{fragments, cut_from, oriented, bodies, some, endless, is_gap, is_literal, bare_place, limit_place, first_place, mirrored_placed}
-use Rattle.kinds.specs.Grammar.{Placed, Ordered, start}
-use Rattle.kinds.specs.Patterns.{Placement, hits}
-use Rattle.kinds.specs.Reader.{items_of}
-use Rattle.kinds.specs.Search.{found}
-use Rattle.kinds.specs.declared.pattern.Reference.{Reference}
-use Rattle.kinds.specs.declared.pattern.Reference.TheVariants.{Front, Back, Anywhere}
-use Rattle.kinds.specs.Spans.{Small}
-use Rattle.kinds.proofs.Anchors.{any_break, fragments_small, anchor_codes}
-use Rattle.kinds.proofs.Backs.{mirrored_placed_twice, limits_mirrored, literals_mirrored, found_from_back}
-use Rattle.kinds.proofs.Decisions.{hits_exactly}
-use Rattle.kinds.proofs.Searches.{found_exactly, cut_gap, cut_thing, cut_held}
-use Rattle.kinds.proofs.Sound as reader
+use Rattle.patterns.specs.Fragments as spec
+use Rattle.patterns.specs.Fragments.{fragments, cut_from, oriented, bodies, some, endless, is_gap, is_literal, bare_place, limit_place, first_place, mirrored_placed}
+use Rattle.patterns.specs.Grammar.{Placed, Ordered, start}
+use Rattle.patterns.specs.Patterns.{Placement, hits}
+use Rattle.patterns.specs.Reader.{items_of}
+use Rattle.patterns.specs.Search.{found}
+use Rattle.patterns.specs.declared.reference.Reference.{Reference}
+use Rattle.patterns.specs.declared.reference.Reference.TheVariants.{Front, Back, Anywhere}
+use Rattle.patterns.specs.Spans.{Small}
+use Rattle.patterns.proofs.Anchors.{any_break, fragments_small, anchor_codes}
+use Rattle.patterns.proofs.Backs.{mirrored_placed_twice, limits_mirrored, literals_mirrored, found_from_back}
+use Rattle.patterns.proofs.Decisions.{hits_exactly}
+use Rattle.patterns.proofs.Searches.{found_exactly, cut_gap, cut_thing, cut_held}
+use Rattle.patterns.proofs.Sound as reader
 use Rattle.engine.specs.Compiled.{Hold}
 use Rattle.engine.specs.Limits.{refusal}
 use Rattle.engine.specs.Reading.{held}

@@ -1,7 +1,7 @@
 -- What literals do in the states of the reader, by what is stored; and that no character begins a pair where none names an element.
 use Rattle.std.proofs.Common.{◌≡◌, ℕ, ◌+◌, ◌≤◌, Bool, true, false, ◌⊎◌, List, [], ◌∷◌, ◌++◌, map, length, drop, sym, refl, ap, ◌∙◌, subst, inl, inr, arith}
 use Rattle.std.proofs.lemmas.List.{drop-append-le, length_push}
-use Rattle.kinds.specs.Reader.{alternatives, low, high, goes_on, leads, some_below, with_code}
+use Rattle.patterns.specs.Reader.{alternatives, low, high, goes_on, leads, some_below, with_code}
 use Rattle.engine.specs.Contexts.{nameless, state_of, step_of, LiesWithin}
 use Rattle.engine.specs.Stored.{run_codes, run_within, all_runs_within}
 use Rattle.engine.specs.declared.context.Context.{Context}

@@ -2,9 +2,9 @@
 use Rattle.std.proofs.Common.{◌≡◌, ℕ, suc, ◌+◌, ◌-◌, ◌^◌, ◌≤◌, min, Bool, true, false, cond, ◌||◌, ltb, leb, List, [], ◌∷◌, ◌++◌, length, Some, None, Option, unwrap_or, sym, refl, ap, ◌∙◌, subst, ap₂, append_assoc, add-one, arith}
 use Rattle.std.proofs.lemmas.Bool.Decides.{nat_tests}
 use Rattle.std.specs.Option.{option_or}
-use Rattle.kinds.specs.Fragments.{least, span, sum, some, is_gap, endless, wrong, least_with, is_literal, Fragment, cut_from, fragments, wrong_place, first_place, fragment_place, bare_place}
-use Rattle.kinds.specs.Grammar.{Placed}
-use Rattle.kinds.specs.Patterns.{Item}
+use Rattle.patterns.specs.Fragments.{least, span, sum, some, is_gap, endless, wrong, least_with, is_literal, Fragment, cut_from, fragments, wrong_place, first_place, fragment_place, bare_place}
+use Rattle.patterns.specs.Grammar.{Placed}
+use Rattle.patterns.specs.Patterns.{Item}
 use Rattle.engine.specs.Limits.{refusal}
 use Rattle.engine.specs.Tallies.{empty, single, joined, initial, smallest_with, closed, judged, with_gap, begun, extended, with_thing, with_item, tallied}
 use Rattle.engine.specs.declared.cause.Cause.{Cause}

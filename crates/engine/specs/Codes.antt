@@ -1,7 +1,7 @@
 -- The codes of a reading's elements, the table of an anchor's shifts, and the places that are looked at.
 use Rattle.std.specs.Prelude.{◌≡◌, ℕ, ◌<◌, if◌then◌else◌, List, map, Some, None, Option, nat_le, slice_index}
 use Rattle.kinds.specs.Alphabet.{Alphabet}
-use Rattle.kinds.specs.Fragments.{shift}
+use Rattle.patterns.specs.Fragments.{shift}
 
 -- the codes of elements, in order
 abbrev pub codes_of : {E : Type 0} → Alphabet E → List E → List ℕ

@@ -1,10 +1,10 @@
 -- What a compiled fragment holds, by the items that it was compiled from.
 use Rattle.std.specs.Prelude.{◌≡◌, ℕ, ◌+◌, ◌-◌, ◌<◌, ◌≤◌, List, [], ◌∷◌, length, take, drop, Some, None, slice_index, vec_items, vec_len, ⊤}
-use Rattle.kinds.specs.Fragments as spec
-use Rattle.kinds.specs.Fragments.{Anchor, anchor, lead, shift, bodies, literal_code}
-use Rattle.kinds.specs.Grammar.{Placed}
-use Rattle.kinds.specs.Patterns.{Item}
-use Rattle.kinds.specs.declared.pattern.Reference.{Reference}
+use Rattle.patterns.specs.Fragments as spec
+use Rattle.patterns.specs.Fragments.{Anchor, anchor, lead, shift, bodies, literal_code}
+use Rattle.patterns.specs.Grammar.{Placed}
+use Rattle.patterns.specs.Patterns.{Item}
+use Rattle.patterns.specs.declared.reference.Reference.{Reference}
 use Rattle.engine.specs.declared.fragment.Fragment.{Fragment}
 
 -- the codes of the literals among items

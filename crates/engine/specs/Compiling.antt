@@ -1,11 +1,11 @@
 -- What the parts of the compiler answer.
 use Rattle.std.specs.Prelude.{◌≡◌, ℕ, ◌+◌, ◌<◌, ◌≤◌, Bool, ◌&&◌, List, [], ◌∷◌, length, take, drop, Some, None, Option, nat_le, nat_lt, slice_index}
 use Rattle.std.specs.List.{filter_map}
-use Rattle.kinds.specs.Fragments.{anchor, bodies, cut_from, shift}
-use Rattle.kinds.specs.Grammar.{Placed}
-use Rattle.kinds.specs.Patterns.{Item}
-use Rattle.kinds.specs.declared.pattern.Reference.{Reference}
-use Rattle.kinds.specs.declared.pattern.Reference.TheVariants.{Front, Back, Anywhere}
+use Rattle.patterns.specs.Fragments.{anchor, bodies, cut_from, shift}
+use Rattle.patterns.specs.Grammar.{Placed}
+use Rattle.patterns.specs.Patterns.{Item}
+use Rattle.patterns.specs.declared.reference.Reference.{Reference}
+use Rattle.patterns.specs.declared.reference.Reference.TheVariants.{Front, Back, Anywhere}
 use Rattle.engine.specs.Compiled.{literal_codes, anchor_at}
 use Rattle.engine.specs.Stored.{items}
 use Rattle.engine.specs.declared.part.Part.{Part}

@@ -1,8 +1,8 @@
 -- Where the reader of texts is, by what it has stored, and what one token does there.
 use Rattle.std.specs.Prelude.{◌≡◌, ℕ, ◌≤◌, Bool, true, false, List, [], ◌∷◌, ◌++◌, map, length, drop, None, vec_items, ⊤}
 use Rattle.kinds.specs.Alphabet.{Alphabet}
-use Rattle.kinds.specs.Grammar.{start, after_thing, after_gap}
-use Rattle.kinds.specs.Reader.{State, between, alternatives, bracket, low, high, Next, stuck, goes_on, complete}
+use Rattle.patterns.specs.Grammar.{start, after_thing, after_gap}
+use Rattle.patterns.specs.Reader.{State, between, alternatives, bracket, low, high, Next, stuck, goes_on, complete}
 use Rattle.engine.specs.Reading.{held}
 use Rattle.engine.specs.Stored.{run_codes, run_within, item_of, placed_of, part_within}
 use Rattle.engine.specs.declared.context.Context.{Context}

@@ -1,10 +1,10 @@
 -- Worked examples: what texts of bytes hit and miss, where texts are refused, and spans at the limit.
 use Rattle.std.specs.Prelude.{◌≡◌, ℕ, Bool, true, false, List, [], ◌∷◌, Some, Ok, Err, codes, Result}
 use Rattle.kinds.specs.Bytes.{byte_alphabet}
-use Rattle.kinds.specs.Fragments.{bodies}
-use Rattle.kinds.specs.Patterns.{hits, literal, gap}
-use Rattle.kinds.specs.declared.pattern.Reference.{Reference}
-use Rattle.kinds.specs.declared.pattern.Reference.TheVariants.{Front, Back, Anywhere}
+use Rattle.patterns.specs.Fragments.{bodies}
+use Rattle.patterns.specs.Patterns.{hits, literal, gap}
+use Rattle.patterns.specs.declared.reference.Reference.{Reference}
+use Rattle.patterns.specs.declared.reference.Reference.TheVariants.{Front, Back, Anywhere}
 use Rattle.engine.specs.Sequences.{outcome}
 use Rattle.engine.specs.declared.cause.Cause.{Cause}
 use Rattle.engine.specs.declared.cause.Cause.TheVariants.{Grammar, Limit, NoLiteral}

@@ -1,6 +1,6 @@
 -- How many elements an item takes, as a pattern gives it.
-use Rattle.kinds.specs.Fragments.{least, span}
-use Rattle.kinds.specs.Patterns.{Item}
+use Rattle.patterns.specs.Fragments.{least, span}
+use Rattle.patterns.specs.Patterns.{Item}
 use Rattle.engine.specs.declared.contents.Extent.{Extent}
 
 -- the least number of elements that an item takes, and how many it spans

@@ -1,10 +1,10 @@
 -- The search for a fragment: what stands before and behind its anchor, and the least end through one place of the anchor.
 use Rattle.std.specs.Prelude.{◌≡◌, ℕ, ◌+◌, ◌-◌, ◌<◌, ◌≤◌, min, true, ◌&&◌, List, length, take, drop, Some, None, Option, nat_lt, vec_len}
-use Rattle.kinds.specs.Fragments.{Anchor, bodies}
-use Rattle.kinds.specs.Grammar.{Placed}
-use Rattle.kinds.specs.Patterns.{Item, AtMost, mirrored}
-use Rattle.kinds.specs.Search.{reaches}
-use Rattle.kinds.specs.Spans.{Anchored, SmallParts, Spans}
+use Rattle.patterns.specs.Fragments.{Anchor, bodies}
+use Rattle.patterns.specs.Grammar.{Placed}
+use Rattle.patterns.specs.Patterns.{Item, AtMost, mirrored}
+use Rattle.patterns.specs.Search.{reaches}
+use Rattle.patterns.specs.Spans.{Anchored, SmallParts, Spans}
 use Rattle.rows.specs.Rows.{member}
 use Rattle.rows.specs.declared.Row.{Row}
 use Rattle.engine.specs.declared.fragment.Fragment.{Fragment}

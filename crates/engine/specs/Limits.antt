@@ -1,7 +1,7 @@
 -- Which texts of the grammar are refused, and where.
 use Rattle.std.specs.Prelude.{ℕ, List, Some, None, Option}
-use Rattle.kinds.specs.Fragments.{fragments, limit_place, bare_place}
-use Rattle.kinds.specs.Grammar.{Placed}
+use Rattle.patterns.specs.Fragments.{fragments, limit_place, bare_place}
+use Rattle.patterns.specs.Grammar.{Placed}
 use Rattle.engine.specs.declared.cause.Cause.{Cause}
 use Rattle.engine.specs.declared.cause.Cause.TheVariants.{Limit, NoLiteral}
 

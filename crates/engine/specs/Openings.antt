@@ -1,9 +1,9 @@
 -- The literal that a fragment begins with, as it is looked for before the places of an anchor.
 use Rattle.std.specs.Prelude.{◌≡◌, ℕ, ◌+◌, ◌-◌, ◌<◌, ◌≤◌, min, max, List, [], ◌∷◌, Some, None, Option}
 use Rattle.std.specs.List.{slice_get}
-use Rattle.kinds.specs.Fragments.{literal_code}
-use Rattle.kinds.specs.Patterns.{Item}
-use Rattle.kinds.specs.Spans.{sum_span}
+use Rattle.patterns.specs.Fragments.{literal_code}
+use Rattle.patterns.specs.Patterns.{Item}
+use Rattle.patterns.specs.Spans.{sum_span}
 use Rattle.engine.specs.declared.opening.Opening.{Opening}
 
 -- the code of the literal that items begin with, if they do

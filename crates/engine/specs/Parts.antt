@@ -1,8 +1,8 @@
 -- What the runs and parts of a pattern stand for, by the pattern that holds them.
 use Rattle.std.specs.Prelude.{◌≡◌, ℕ, true, List, vec_items}
-use Rattle.kinds.specs.Fragments.{bodies}
-use Rattle.kinds.specs.Grammar.{Placed}
-use Rattle.kinds.specs.Patterns.{Item}
+use Rattle.patterns.specs.Fragments.{bodies}
+use Rattle.patterns.specs.Grammar.{Placed}
+use Rattle.patterns.specs.Patterns.{Item}
 use Rattle.engine.specs.Stored.{run_codes, item_of, placed_of, items, run_within, all_runs_within, part_within, all_parts_within}
 use Rattle.engine.specs.declared.part.Part.{Part}
 use Rattle.engine.specs.declared.part.PlacedPart.{PlacedPart}

@@ -1,7 +1,7 @@
 -- One step of an item over the codes of a reading, from the members of a row to those of another.
 use Rattle.std.specs.Prelude.{◌≡◌, ℕ, ◌+◌, ◌<◌, ◌≤◌, Bool, true, ◌&&◌, List, length, Decides, nat_le}
-use Rattle.kinds.specs.Patterns.{Item, matches, range}
-use Rattle.kinds.specs.Search.{stretch}
+use Rattle.patterns.specs.Patterns.{Item, matches, range}
+use Rattle.patterns.specs.Search.{stretch}
 use Rattle.rows.specs.Rows.{member}
 use Rattle.rows.specs.declared.Row.{Row}
 use Rattle.engine.specs.declared.reach.RunRange.{RunRange}

@@ -1,8 +1,8 @@
 -- What the reader of texts answers.
 use Rattle.std.specs.Prelude.{◌≡◌, ℕ, List, Ok, Err, vec_items, Result, ⊤}
 use Rattle.kinds.specs.Alphabet.{Alphabet}
-use Rattle.kinds.specs.Grammar.{Placed}
-use Rattle.kinds.specs.Reader.{items_of}
+use Rattle.patterns.specs.Grammar.{Placed}
+use Rattle.patterns.specs.Reader.{items_of}
 use Rattle.engine.specs.Stored.{items}
 use Rattle.engine.specs.declared.cause.Cause.TheVariants.{Grammar}
 use Rattle.engine.specs.declared.fault.Failure.{Failure}

@@ -1,7 +1,7 @@
 -- What the parts of the lexer find at a place of a text.
 use Rattle.std.specs.Prelude.{◌≡◌, ℕ, ◌+◌, ◌<◌, ◌≤◌, Bool, true, false, ◌&&◌, List, length, take, drop, Some, None, ◌==◌, nat_lt, slice_index}
 use Rattle.kinds.specs.Alphabet.{Alphabet, within}
-use Rattle.kinds.specs.Grammar.{Digits, followed_by}
+use Rattle.patterns.specs.Grammar.{Digits, followed_by}
 use Rattle.engine.specs.declared.cursor.Cursor.{Cursor}
 
 -- a character stands at a place

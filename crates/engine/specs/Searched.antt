@@ -1,10 +1,10 @@
 -- What the search of a compiled sequence relies on, and what it answers.
 use Rattle.std.specs.Prelude.{◌≡◌, ℕ, ◌<◌, List, length, None}
-use Rattle.kinds.specs.Fragments as spec
-use Rattle.kinds.specs.Fragments.{anchor, bodies, fragments, mirrored_placed, oriented}
-use Rattle.kinds.specs.Grammar.{Placed, Ordered, start}
-use Rattle.kinds.specs.declared.pattern.Reference.{Reference}
-use Rattle.kinds.specs.Spans.{Small}
+use Rattle.patterns.specs.Fragments as spec
+use Rattle.patterns.specs.Fragments.{anchor, bodies, fragments, mirrored_placed, oriented}
+use Rattle.patterns.specs.Grammar.{Placed, Ordered, start}
+use Rattle.patterns.specs.declared.reference.Reference.{Reference}
+use Rattle.patterns.specs.Spans.{Small}
 use Rattle.engine.specs.Compiled.{Holds, Hold}
 use Rattle.engine.specs.Limits.{refusal}
 use Rattle.engine.specs.declared.fragment.Fragment.{Fragment}

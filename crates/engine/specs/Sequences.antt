@@ -3,12 +3,12 @@ use Rattle.std.specs.Prelude.{◌≡◌, ℕ, zero, suc, Bool, List, length, Som
 use Rattle.std.specs.List.{slice_get}
 use Rattle.std.specs.Option.{option_map}
 use Rattle.kinds.specs.Alphabet.{Alphabet}
-use Rattle.kinds.specs.Fragments as spec
-use Rattle.kinds.specs.Fragments.{fragments, oriented, bodies, anchor, lead, shift}
-use Rattle.kinds.specs.Grammar.{Placed}
-use Rattle.kinds.specs.Patterns.{hits}
-use Rattle.kinds.specs.Reader.{items_of}
-use Rattle.kinds.specs.declared.pattern.Reference.{Reference}
+use Rattle.patterns.specs.Fragments as spec
+use Rattle.patterns.specs.Fragments.{fragments, oriented, bodies, anchor, lead, shift}
+use Rattle.patterns.specs.Grammar.{Placed}
+use Rattle.patterns.specs.Patterns.{hits}
+use Rattle.patterns.specs.Reader.{items_of}
+use Rattle.patterns.specs.declared.reference.Reference.{Reference}
 use Rattle.engine.specs.Compiled.{Hold}
 use Rattle.engine.specs.Limits.{refusal}
 use Rattle.engine.specs.Reading.{held}

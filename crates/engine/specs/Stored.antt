@@ -1,7 +1,7 @@
 -- What a stored pattern stands for: items whose runs are parts of one list of codes.
 use Rattle.std.specs.Prelude.{ℕ, ◌+◌, Bool, true, ◌&&◌, List, [], ◌∷◌, map, length, take, drop, nat_le}
-use Rattle.kinds.specs.Grammar.{Placed}
-use Rattle.kinds.specs.Patterns.{Item, literal, any, group, range, other, gap}
+use Rattle.patterns.specs.Grammar.{Placed}
+use Rattle.patterns.specs.Patterns.{Item, literal, any, group, range, other, gap}
 use Rattle.engine.specs.declared.part.Part.{Part}
 use Rattle.engine.specs.declared.part.Part.TheVariants as part
 use Rattle.engine.specs.declared.part.PlacedPart.{PlacedPart}

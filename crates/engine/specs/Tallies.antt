@@ -1,8 +1,8 @@
 -- What is kept of a pattern's items while its fragments are counted.
 use Rattle.std.specs.Prelude.{ℕ, ◌+◌, ◌-◌, ◌^◌, min, Bool, false, if◌then◌else◌, ◌||◌, List, [], ◌∷◌, Some, None, Option, nat_le, nat_lt}
 use Rattle.std.specs.Option.{option_or, unwrap_or}
-use Rattle.kinds.specs.Fragments.{span, is_gap, endless, wrong, least_with, is_literal}
-use Rattle.kinds.specs.Grammar.{Placed}
+use Rattle.patterns.specs.Fragments.{span, is_gap, endless, wrong, least_with, is_literal}
+use Rattle.patterns.specs.Grammar.{Placed}
 use Rattle.engine.specs.declared.limits.Stretch.{Stretch}
 use Rattle.engine.specs.declared.limits.Tally.{Tally}
 

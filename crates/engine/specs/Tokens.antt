@@ -1,9 +1,9 @@
 -- What tokens do to the reader of texts: the link between the lexer and the reader's definition.
 use Rattle.std.specs.Prelude.{◌≡◌, ℕ, ◌<◌, ◌≤◌, if◌then◌else◌, List, length, take, drop, Some, None, Ok, Err, Option, Result, ◌==◌, ⊤}
 use Rattle.kinds.specs.Alphabet.{Alphabet}
-use Rattle.kinds.specs.Grammar.{Placed, gap_allowed, behind}
-use Rattle.kinds.specs.Patterns.{Item, any, gap}
-use Rattle.kinds.specs.Reader.{State, between, asked, half, alternatives, bracket, low, high, digits, endless, Next, stuck, goes_on, complete, with_code, next, follow, in_front}
+use Rattle.patterns.specs.Grammar.{Placed, gap_allowed, behind}
+use Rattle.patterns.specs.Patterns.{Item, any, gap}
+use Rattle.patterns.specs.Reader.{State, between, asked, half, alternatives, bracket, low, high, digits, endless, Next, stuck, goes_on, complete, with_code, next, follow, in_front}
 use Rattle.engine.specs.declared.lexer.Stop.{Stop}
 use Rattle.engine.specs.declared.token.Punctuation.{Punctuation}
 use Rattle.engine.specs.declared.token.Punctuation.TheVariants.{OpenGroup, Bar, CloseGroup, OpenRange, Except, Colon, CloseRange}

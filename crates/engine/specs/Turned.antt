@@ -1,6 +1,6 @@
 -- A stored pattern, mirrored: its list of codes is reversed, and its runs and parts follow.
 use Rattle.std.specs.Prelude.{ℕ, ◌-◌}
-use Rattle.kinds.specs.Patterns.{turned}
+use Rattle.patterns.specs.Patterns.{turned}
 use Rattle.engine.specs.declared.part.Part.{Part}
 use Rattle.engine.specs.declared.part.Part.TheVariants as part
 use Rattle.engine.specs.declared.part.PlacedPart.{PlacedPart}

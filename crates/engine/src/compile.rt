@@ -4,12 +4,12 @@ ghost use Rattle.engine.specs.Compiled.{Holds, Hold};
 ghost use Rattle.engine.specs.Compiling.{part_codes, replaces, AnchorsParts, CutsParts, Shifts};
 ghost use Rattle.engine.specs.Reading.{held};
 ghost use Rattle.engine.specs.Parts.{items_in, HasParts};
-ghost use Rattle.kinds.specs.Fragments.{sum_least, fragments as fragments_from};
+ghost use Rattle.patterns.specs.Fragments.{sum_least, fragments as fragments_from};
 
 use crate::fragment::{Fragment, INDICES};
 use crate::part::{Part, PlacedPart};
 use crate::pattern::Pattern;
-use kinds::pattern::Reference;
+use patterns::Reference;
 use std::alloc::{AllocError, Global};
 
 // The sum of two numbers of elements. A number that does not fit its type cannot be stored.

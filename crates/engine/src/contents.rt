@@ -3,7 +3,7 @@ ghost use Rattle.std.specs.Prelude.{◌≡◌, ℕ, ◌+◌, ◌≤◌, true, Li
 ghost use Rattle.engine.specs.Extents.{extent};
 ghost use Rattle.engine.specs.Parts.{run_in, item_in, HasRun, HasRuns, HasPart};
 ghost use Rattle.engine.specs.Stored.{run_codes, all_runs_within};
-ghost use Rattle.kinds.specs.Patterns.{group};
+ghost use Rattle.patterns.specs.Patterns.{group};
 
 use crate::part::Part;
 use crate::pattern::Pattern;

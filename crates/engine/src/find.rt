@@ -4,10 +4,10 @@ ghost use Rattle.engine.specs.Codes.{codes_of};
 ghost use Rattle.engine.specs.Finding.{Bounds, LeastThrough, Sides};
 ghost use Rattle.engine.specs.Reading.{held};
 ghost use Rattle.engine.specs.Sequences.{Searches};
-ghost use Rattle.kinds.specs.Spans.{NoLess};
-ghost use Rattle.kinds.specs.Fragments as spec;
-ghost use Rattle.kinds.specs.Fragments.{bodies, Anchor};
-ghost use Rattle.kinds.specs.Search.{least_end, stands_at};
+ghost use Rattle.patterns.specs.Spans.{NoLess};
+ghost use Rattle.patterns.specs.Fragments as spec;
+ghost use Rattle.patterns.specs.Fragments.{bodies, Anchor};
+ghost use Rattle.patterns.specs.Search.{least_end, stands_at};
 
 use crate::fragment::Fragment;
 use crate::lent::{BackFrom, OnFrom};

@@ -4,8 +4,8 @@ ghost use Rattle.std.specs.List.{prefix_len};
 ghost use Rattle.engine.specs.Scanning.{standing, Behind, Passes, GoesOn, NoPair, NoDigit, LongestNumber};
 ghost use Rattle.engine.specs.Tokens.{class_of, ReadsGap, Stops, ReadsPart, StopsExpecting, Lexed};
 ghost use Rattle.kinds.specs.Alphabet.{within};
-ghost use Rattle.kinds.specs.Grammar.{Digits, followed_by};
-ghost use Rattle.kinds.specs.Reader.{digits, leads, least as lower, most as upper};
+ghost use Rattle.patterns.specs.Grammar.{Digits, followed_by};
+ghost use Rattle.patterns.specs.Reader.{digits, leads, least as lower, most as upper};
 
 use crate::cursor::Cursor;
 use crate::token::{Class, Expects, Gap, Punctuation, Token};

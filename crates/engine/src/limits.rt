@@ -4,14 +4,14 @@ ghost use Rattle.engine.specs.Limits.{refusal};
 ghost use Rattle.engine.specs.Reading.{held};
 ghost use Rattle.engine.specs.Parts.{item_in, placed_in, HasPart};
 ghost use Rattle.engine.specs.Tallies.{single, joined, initial, closed, with_gap, with_thing, with_item, tallied};
-ghost use Rattle.kinds.specs.Fragments.{fragments, before, wrong};
+ghost use Rattle.patterns.specs.Fragments.{fragments, before, wrong};
 
 use crate::cause::Cause;
 use crate::part::{Part, PlacedPart};
 use crate::pattern::Pattern;
 use crate::smaller::smaller;
 use crate::token::Gap;
-use kinds::pattern::Direction;
+use patterns::Direction;
 
 // A pattern has at most this many fragments.
 const MOST_FRAGMENTS: usize = 8;

@@ -2,13 +2,13 @@
 ghost use Rattle.std.specs.Prelude.{◌≡◌, ℕ, map};
 ghost use Rattle.engine.specs.Reading.{held};
 ghost use Rattle.engine.specs.Turned.{turned_part, turned_placed, turned_run};
-ghost use Rattle.kinds.specs.Fragments.{mirrored_placed};
-ghost use Rattle.kinds.specs.Patterns.{turned};
+ghost use Rattle.patterns.specs.Fragments.{mirrored_placed};
+ghost use Rattle.patterns.specs.Patterns.{turned};
 
 use crate::part::{Part, PlacedPart};
 use crate::pattern::Pattern;
 use crate::run::Run;
-use kinds::pattern::Direction;
+use patterns::Direction;
 
 // What follows where the codes of a pattern are reversed.
 trait Turn: Copy {

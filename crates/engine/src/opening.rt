@@ -6,7 +6,7 @@ ghost use Rattle.engine.specs.Finding.{part_of, Bounds};
 ghost use Rattle.engine.specs.Openings.{opening_code, Excluded, Known, LastOf, NoneOf, OpeningOf};
 ghost use Rattle.engine.specs.Parts.{items_in, HasParts};
 ghost use Rattle.engine.specs.Reading.{held};
-ghost use Rattle.kinds.specs.Spans.{sum_span};
+ghost use Rattle.patterns.specs.Spans.{sum_span};
 ghost use Rattle.engine.specs.declared.pattern.Pattern.{Pattern};
 
 use crate::fragment::Fragment;

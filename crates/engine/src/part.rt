@@ -1,7 +1,7 @@
 // An item of a pattern as it was read.
 use crate::run::Run;
 use crate::token::Gap;
-use kinds::pattern::Direction;
+use patterns::Direction;
 
 // An item. Its runs stand in the pattern's list of codes; a group has the runs from `first` on, `count` of them.
 #[derive(Clone, Copy)]

@@ -1,7 +1,7 @@
 // Looks for the places of a reading where an anchor stands.
 ghost use Rattle.std.specs.Prelude.{◌≡◌, ◌+◌, ◌≤◌, length, IfSome};
 ghost use Rattle.engine.specs.Codes.{codes_of, not_past, ShiftsOf};
-ghost use Rattle.kinds.specs.Search.{stands_at, first_fit};
+ghost use Rattle.patterns.specs.Search.{stands_at, first_fit};
 
 use crate::fragment::INDICES;
 use kinds::kind::Kind;

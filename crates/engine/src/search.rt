@@ -4,16 +4,16 @@ ghost use Rattle.std.specs.Option.{is_some};
 ghost use Rattle.engine.specs.Codes.{codes_of};
 ghost use Rattle.engine.specs.Reading.{held};
 ghost use Rattle.engine.specs.Sequences.{said};
-ghost use Rattle.kinds.specs.Fragments.{bodies, fragments};
-ghost use Rattle.kinds.specs.Patterns.{hits as hits_by_rule, Placement};
-ghost use Rattle.kinds.specs.Search.{found};
+ghost use Rattle.patterns.specs.Fragments.{bodies, fragments};
+ghost use Rattle.patterns.specs.Patterns.{hits as hits_by_rule, Placement};
+ghost use Rattle.patterns.specs.Search.{found};
 
 use crate::find::least_end;
 use crate::lent::Lent;
 use crate::sequence::Sequence;
 use crate::starts::Starts;
 use kinds::backward::Backward;
-use kinds::pattern::Reference;
+use patterns::Reference;
 use kinds::reading::Reading;
 
 // Where the last fragment of a sequence ends, if its fragments are found in a reading one behind the other: the first starting

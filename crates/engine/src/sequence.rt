@@ -4,7 +4,7 @@ ghost use Rattle.engine.specs.Searched.{Sound};
 
 use crate::fragment::Fragment;
 use crate::pattern::Pattern;
-use kinds::pattern::Offsets;
+use patterns::Reference;
 
 // The pattern stands in the order of the search: mirrored for a sequence from the back.
 #[derive(Drop)]

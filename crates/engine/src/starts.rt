@@ -1,7 +1,7 @@
 // Where a placement may start.
 ghost use Rattle.std.specs.Prelude.{◌≡◌, ℕ, ◌+◌, ◌<◌, ◌≤◌, Decides, MatchOption};
 ghost use Rattle.engine.specs.Finding.{Start};
-ghost use Rattle.kinds.specs.Patterns.{AtMost};
+ghost use Rattle.patterns.specs.Patterns.{AtMost};
 
 use crate::limits::LONGEST_SPAN;
 use rows::Row;

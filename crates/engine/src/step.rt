@@ -5,15 +5,15 @@ ghost use Rattle.std.specs.Prelude.{◌≡◌, IfOk};
 ghost use Rattle.engine.specs.Contexts.{ContextWithin, StepsTo, nameless, state_in};
 ghost use Rattle.engine.specs.Tokens.{character, with_token};
 ghost use Rattle.engine.specs.declared.context.Context.TheVariants.{Group as InGroup, Bracket as InBracket, Low as InLow, High as InHigh};
-ghost use Rattle.kinds.specs.Grammar.{Position};
-ghost use Rattle.kinds.specs.Reader.{between as between_items, next as next_by, with_code};
+ghost use Rattle.patterns.specs.Grammar.{Position};
+ghost use Rattle.patterns.specs.Reader.{between as between_items, next as next_by, with_code};
 
 use crate::context::Context;
 use crate::part::Part;
 use crate::pattern::Pattern;
 use crate::run::Run;
 use crate::token::{Punctuation, Token};
-use kinds::pattern::Direction;
+use patterns::Direction;
 use std::alloc::AllocError;
 
 // What one token does: it cannot stand here, the item goes on, or the item is complete. One case for each outcome of the

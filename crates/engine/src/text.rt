@@ -4,9 +4,9 @@ ghost use Rattle.engine.specs.Codes.{codes_of};
 ghost use Rattle.engine.specs.Reading.{held};
 ghost use Rattle.engine.specs.Sequences.{Checked, Compiled, Hit, Shown, shown};
 ghost use Rattle.engine.specs.Compiled.{Hold};
-ghost use Rattle.kinds.specs.Fragments.{oriented};
-ghost use Rattle.kinds.specs.Fragments as spec;
-ghost use Rattle.kinds.specs.Grammar.{Placed};
+ghost use Rattle.patterns.specs.Fragments.{oriented};
+ghost use Rattle.patterns.specs.Fragments as spec;
+ghost use Rattle.patterns.specs.Grammar.{Placed};
 
 use crate::compile::fragments_of;
 use crate::fault::{Failure, Fault};
@@ -18,7 +18,7 @@ use crate::reader::read;
 use crate::search::hits;
 use crate::sequence::Sequence;
 use kinds::kind::Kind;
-use kinds::pattern::{Offsets, Reference};
+use patterns::Reference;
 use kinds::reading::Reading;
 use std::alloc::Global;
 

@@ -1,15 +1,2 @@
-pub mod Anchors
-pub mod Backs
-pub mod Compiled
-pub mod Decisions
-pub mod Follows
-pub mod Mirrors
 pub mod Places
-pub mod Refusals
-pub mod Searches
-pub mod Sound
 pub mod Spellings
-pub mod Steps
-pub mod Texts
-pub mod Vectors
-pub mod Whole

@@ -1,12 +1,6 @@
 pub mod Alphabet
 pub mod AxleMarks
 pub mod Bytes
-pub mod Fragments
-pub mod Grammar
-pub mod Patterns
-pub mod Reader
-pub mod Readings
-pub mod Search
-pub mod Spans
-pub mod Spelling
 pub mod Elements
+pub mod Readings
+pub mod Spelling

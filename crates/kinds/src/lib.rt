@@ -3,12 +3,9 @@
 
 pub mod backward;
 pub mod byte;
-pub mod grammar;
 pub mod held;
 pub mod kind;
 pub mod mark;
 pub mod marks;
-pub mod pattern;
 pub mod reading;
 pub mod spelling;
-pub mod theorems;

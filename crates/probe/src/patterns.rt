@@ -7,7 +7,7 @@ use engine::text::{checked, show};
 use kinds::byte::Byte;
 use kinds::held::Held;
 use kinds::kind::Kind;
-use kinds::pattern::{Offsets, Reference};
+use patterns::Reference;
 use std::alloc::Global;
 use std::str::FromStr;
 

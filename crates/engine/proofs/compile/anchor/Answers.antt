@@ -1,6 +1,6 @@
 use Rattle.std.proofs.Common.{◌≡◌, ℕ, ◌+◌, ◌≤◌, List, [], length, get_or, sym, ap, ◌∙◌, subst, arith}
 use Rattle.std.proofs.lemmas.Bool.{both_ways}
-use Rattle.kinds.specs.Fragments.{literal_code}
+use Rattle.patterns.specs.Fragments.{literal_code}
 use Rattle.engine.specs.Compiling.{part_items, Anchors}
 use Rattle.engine.specs.Stored.{item_of}
 use Rattle.engine.specs.declared.compile.Literals.{Literals}

@@ -1,7 +1,7 @@
 use Rattle.std.proofs.Common.{◌≡◌, ◌+◌, Bool, true, false, not, ◌||◌, get_or, is_some, sym, refl, ap, ◌∙◌, subst, arith}
 use lib.ListN.{length-map}
 use Rattle.std.proofs.lemmas.List.{get_or-map}
-use Rattle.kinds.specs.Fragments as spec
+use Rattle.patterns.specs.Fragments as spec
 use Rattle.engine.specs.Stored.{items, item_of, placed_of}
 use Rattle.engine.specs.declared.part.Part.TheVariants as part
 use Rattle.engine.proofs.Cutting.{Cutting, cutting_gap, cutting_thing, cutting_cuts, no_gap, endless_gap}

@@ -1,5 +1,5 @@
 use Rattle.std.proofs.Common.{◌-◌, ◌≤◌, length, vec_items}
-use Rattle.kinds.specs.Fragments.{fragments}
+use Rattle.patterns.specs.Fragments.{fragments}
 use Rattle.engine.specs.Reading.{held}
 use Rattle.engine.proofs.Assembling.{Completes}
 use Rattle.engine.proofs.compile.fragments_of.Given as goal

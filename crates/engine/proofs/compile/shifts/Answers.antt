@@ -1,6 +1,6 @@
 use Rattle.std.proofs.Common.{replicate, ◌≡◌, ℕ, ◌+◌, length, refl, sym, ap, subst, ◌∙◌}
 use Rattle.std.specs.declared.ops.Range.{Range}
-use Rattle.kinds.specs.Fragments.{shift}
+use Rattle.patterns.specs.Fragments.{shift}
 use Rattle.engine.proofs.Shifting.{Becomes, becomes_at_first}
 use Rattle.engine.proofs.compile.shifts.Goals as goal
 

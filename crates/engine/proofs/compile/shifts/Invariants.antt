@@ -1,5 +1,5 @@
 use Rattle.std.proofs.Common.{◌≡◌, ℕ, ◌+◌, ◌<◌, length}
-use Rattle.kinds.specs.Fragments.{shift}
+use Rattle.patterns.specs.Fragments.{shift}
 use Rattle.engine.proofs.Shifting.{Becomes}
 use Rattle.engine.proofs.compile.shifts.Given as goal
 

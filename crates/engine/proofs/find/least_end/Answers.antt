@@ -1,8 +1,8 @@
 use Rattle.std.proofs.Common.{◌≡◌, ℕ, ◌+◌, ◌<◌, ◌⊎◌, length, vec_items, vec_len, sym, ap, ◌∙◌, subst, arith}
 use lib.ListN.{length-map}
 use Rattle.std.proofs.lemmas.Bool.{both_ways}
-use Rattle.kinds.specs.Fragments.{anchor, bodies}
-use Rattle.kinds.specs.Spans.{NoLess}
+use Rattle.patterns.specs.Fragments.{anchor, bodies}
+use Rattle.patterns.specs.Spans.{NoLess}
 use Rattle.engine.specs.Codes.{codes_of}
 use Rattle.engine.specs.Stored.{placed_of}
 use Rattle.engine.proofs.Least.{sides, bounds_of, best_begins, none_begins, best_ends, next_before, best_next, best_stays, none_through}

@@ -1,6 +1,6 @@
 use Rattle.std.proofs.Common.{◌-◌, ◌≤◌}
-use Rattle.kinds.specs.Fragments as spec
-use Rattle.kinds.specs.Fragments.{anchor, bodies}
+use Rattle.patterns.specs.Fragments as spec
+use Rattle.patterns.specs.Fragments.{anchor, bodies}
 use Rattle.engine.specs.Codes.{codes_of}
 use Rattle.engine.specs.Finding.{part_of}
 use Rattle.engine.specs.Openings.{Known, OpeningOf}

@@ -4,7 +4,7 @@ use Rattle.std.specs.Ordering.{nat_cmp}
 use Rattle.std.proofs.lemmas.Iterator.{YieldsList-from_slice}
 use Rattle.std.proofs.lemmas.Iterator.Adapters.{YieldsList-from_rev_slice}
 use Rattle.std.proofs.lemmas.Iterator.Search.{cmp_from_yields_List}
-use Rattle.kinds.specs.Patterns.{compared}
+use Rattle.patterns.specs.Patterns.{compared}
 use Rattle.engine.proofs.Runs.{strictly_is, before_strictly}
 use Rattle.engine.proofs.limits.comes_before.Goals as goal
 use Rattle.engine.proofs.limits.comes_before.Goals.{in-FirstOn, in-LastOn}

@@ -1,6 +1,6 @@
 -- How far it is so far and how far what is left spans give how far it is in all.
 use Rattle.std.proofs.Common.{◌≡◌, ◌+◌, ◌≤◌, min, drop}
-use Rattle.kinds.specs.Spans.{sum_span}
+use Rattle.patterns.specs.Spans.{sum_span}
 use Rattle.engine.specs.Parts.{items_in}
 use Rattle.engine.proofs.opening.far_of.Given as goal
 

@@ -11,9 +11,9 @@ use Rattle.std.proofs.lemmas.Iterator.{YieldsList-from_range, YieldsList-from_sl
 use Rattle.std.proofs.lemmas.Iterator.Adapters.{YieldsList-from_rev_slice}
 use Rattle.std.proofs.lemmas.Iterator.Consumers.{YieldsList-from_copied, YieldsList-from_filter_map}
 use Rattle.std.proofs.lemmas.Iterator.Search.{cmp_from_yields_List}
-use Rattle.kinds.specs.Patterns.{compared}
-use Rattle.kinds.specs.declared.pattern.Direction.TheVariants.{LastOn}
-use Rattle.kinds.specs.Search.{stretch}
+use Rattle.patterns.specs.Patterns.{compared}
+use Rattle.patterns.specs.declared.direction.Direction.TheVariants.{LastOn}
+use Rattle.patterns.specs.Search.{stretch}
 use Rattle.engine.specs.Codes.{codes_of}
 use Rattle.engine.proofs.Comparing.{compared_first, compared_last, yields_rev_range}
 use Rattle.engine.proofs.reach.compare.Goals as goal

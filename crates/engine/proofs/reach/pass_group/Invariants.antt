@@ -1,5 +1,5 @@
 use Rattle.std.proofs.Common.{map, take, vec_items}
-use Rattle.kinds.specs.Patterns.{group}
+use Rattle.patterns.specs.Patterns.{group}
 use Rattle.engine.specs.Codes.{codes_of}
 use Rattle.engine.specs.Stored.{run_codes}
 use Rattle.engine.specs.Reaching.{Stepped}

@@ -1,5 +1,5 @@
 use Rattle.std.proofs.Common.{vec_items, sym, ap, ◌∙◌, subst}
-use Rattle.kinds.specs.Patterns.{matches, other}
+use Rattle.patterns.specs.Patterns.{matches, other}
 use Rattle.engine.specs.Codes.{codes_of}
 use Rattle.engine.specs.Stored.{item_of}
 use Rattle.engine.specs.Reaching.{Stepped, range_item}

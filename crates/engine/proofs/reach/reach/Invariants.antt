@@ -1,5 +1,5 @@
 use Rattle.std.proofs.Common.{take, vec_items}
-use Rattle.kinds.specs.Fragments.{bodies}
+use Rattle.patterns.specs.Fragments.{bodies}
 use Rattle.engine.specs.Codes.{codes_of}
 use Rattle.engine.specs.Finding.{Reached}
 use Rattle.engine.specs.Stored.{items}

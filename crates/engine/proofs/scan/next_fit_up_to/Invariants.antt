@@ -1,5 +1,5 @@
 use Rattle.std.proofs.Common.{◌≡◌, ◌+◌, ◌-◌, ◌≤◌, length}
-use Rattle.kinds.specs.Search.{first_fit}
+use Rattle.patterns.specs.Search.{first_fit}
 use Rattle.engine.specs.Codes.{codes_of, ShiftsOf}
 use Rattle.engine.proofs.scan.next_fit_up_to.Given as goal
 

@@ -1,6 +1,6 @@
 use Rattle.std.proofs.Common.{map, reverse, Some, sym, ap, ◌∙◌}
-use Rattle.kinds.specs.Fragments.{fragments}
-use Rattle.kinds.specs.Search.{found}
+use Rattle.patterns.specs.Fragments.{fragments}
+use Rattle.patterns.specs.Search.{found}
 use Rattle.engine.specs.Codes.{codes_of}
 use Rattle.engine.specs.Reading.{held}
 use Rattle.engine.proofs.Searching.{map_reverse}

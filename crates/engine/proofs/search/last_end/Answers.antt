@@ -1,8 +1,8 @@
 use Rattle.std.proofs.Common.{◌≡◌, ◌^◌, ◌<◌, length, None, sym, ap, ◌∙◌, arith}
 use Rattle.std.specs.Option.{is_some}
 use Rattle.std.proofs.lemmas.List.{length-map}
-use Rattle.kinds.specs.Fragments.{bodies}
-use Rattle.kinds.specs.Search.{least_end}
+use Rattle.patterns.specs.Fragments.{bodies}
+use Rattle.patterns.specs.Search.{least_end}
 use Rattle.engine.specs.Codes.{codes_of}
 use Rattle.engine.proofs.Searching.{first_some, first_none, first_next, come_past, come_none, come_next, come_all}
 use Rattle.engine.proofs.search.last_end.Goals as goal

@@ -1,6 +1,6 @@
 use Rattle.std.proofs.Common.{arith}
 use Rattle.std.proofs.lemmas.Grind.{common_steps}
-use Rattle.kinds.specs.Grammar.{start, after_thing, after_gap}
+use Rattle.patterns.specs.Grammar.{start, after_thing, after_gap}
 use Rattle.engine.proofs.step.punctuation.Goals as goal
 
 pub returns-in-Start : goal.returns-in-Start

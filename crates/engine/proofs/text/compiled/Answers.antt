@@ -1,5 +1,5 @@
 use Rattle.std.proofs.Common.{vec_items, ap, ◌∙◌}
-use Rattle.kinds.specs.Fragments.{mirrored_placed}
+use Rattle.patterns.specs.Fragments.{mirrored_placed}
 use Rattle.engine.specs.Reading.{held}
 use Rattle.engine.proofs.Sounds.{compiled_sound}
 use Rattle.engine.proofs.text.compiled.Goals as goal

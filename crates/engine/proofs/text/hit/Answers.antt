@@ -1,6 +1,6 @@
 use Rattle.std.proofs.Common.{◌∙◌}
-use Rattle.kinds.specs.Fragments.{bodies}
-use Rattle.kinds.specs.Patterns.{hits}
+use Rattle.patterns.specs.Fragments.{bodies}
+use Rattle.patterns.specs.Patterns.{hits}
 use Rattle.engine.specs.Codes.{codes_of}
 use Rattle.engine.proofs.Sounds.{said_items}
 use Rattle.engine.proofs.text.hit.Goals as goal

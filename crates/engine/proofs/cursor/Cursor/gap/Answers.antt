@@ -1,9 +1,9 @@
 use Rattle.std.proofs.Common.{◌≡◌, ℕ, ◌+◌, Some, sym, ◌∙◌, subst}
 use Rattle.std.proofs.Math.Path.{subst₂}
 use Rattle.std.proofs.lemmas.Result.{MatchResult-weaker, err_from_is_err_and}
-use Rattle.kinds.specs.Patterns.{gap}
-use Rattle.kinds.specs.Reader.{digits}
-use Rattle.kinds.specs.Reader.{least as lower, most as upper}
+use Rattle.patterns.specs.Patterns.{gap}
+use Rattle.patterns.specs.Reader.{digits}
+use Rattle.patterns.specs.Reader.{least as lower, most as upper}
 use Rattle.engine.specs.Tokens.{Completes, Stops}
 use Rattle.engine.proofs.Gaps.{least_stops, one_number, dash_completes, dash_stops}
 use Rattle.engine.proofs.cursor.Cursor.gap.Goals as goal

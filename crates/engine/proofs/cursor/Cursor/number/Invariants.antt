@@ -1,5 +1,5 @@
 use Rattle.std.proofs.Common.{◌≡◌, ◌^◌, ◌<◌, ◌≤◌, length, take}
-use Rattle.kinds.specs.Grammar.{Digits, followed_by}
+use Rattle.patterns.specs.Grammar.{Digits, followed_by}
 use Rattle.engine.proofs.cursor.Cursor.number.Given as goal
 
 -- the digits, and the value of those that were read

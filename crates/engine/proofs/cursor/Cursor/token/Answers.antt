@@ -1,8 +1,8 @@
 use Rattle.std.proofs.Common.{◌≡◌, ◌+◌, ◌-◌, true, get_or, take, drop, sym, refl, ap, ◌∙◌, subst, arith}
 use Rattle.std.proofs.Math.Path.{subst₂}
-use Rattle.kinds.specs.Patterns.{gap}
-use Rattle.kinds.specs.Reader.{digits}
-use Rattle.kinds.specs.Reader.{least as lower}
+use Rattle.patterns.specs.Patterns.{gap}
+use Rattle.patterns.specs.Reader.{digits}
+use Rattle.patterns.specs.Reader.{least as lower}
 use Rattle.engine.specs.Scanning.{standing, Behind, GoesOn}
 use Rattle.engine.specs.Tokens.{class_of, Completes, ReadsToken, ReadsPart}
 use Rattle.engine.specs.declared.cursor.Cursor.{Cursor}

@@ -1,8 +1,8 @@
 use Rattle.std.proofs.Common.{◌≡◌, ℕ, None, Option, sym, subst}
 use Rattle.std.proofs.lemmas.Result.{err_from_is_err_and}
-use Rattle.kinds.specs.Patterns.{gap}
-use Rattle.kinds.specs.Reader.{digits}
-use Rattle.kinds.specs.Reader.{most as upper}
+use Rattle.patterns.specs.Patterns.{gap}
+use Rattle.patterns.specs.Reader.{digits}
+use Rattle.patterns.specs.Reader.{most as upper}
 use Rattle.engine.specs.Tokens.{Completes, Stops}
 use Rattle.engine.specs.declared.cursor.Cursor.{Cursor}
 use Rattle.engine.proofs.Gaps.{UpperEnd, star_end, number_end}

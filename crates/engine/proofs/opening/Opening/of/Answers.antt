@@ -1,7 +1,7 @@
 -- What stands before the anchor is a part of the pattern's items.
 use Rattle.std.proofs.Common.{◌≡◌, ◌-◌, min, take, drop, vec_items, ap, ◌∙◌, subst, sym}
-use Rattle.kinds.specs.Fragments.{bodies}
-use Rattle.kinds.specs.Spans.{sum_span}
+use Rattle.patterns.specs.Fragments.{bodies}
+use Rattle.patterns.specs.Spans.{sum_span}
 use Rattle.engine.specs.Finding.{part_of}
 use Rattle.engine.specs.Openings.{opening_code}
 use Rattle.engine.specs.Parts.{items_in, HasParts}

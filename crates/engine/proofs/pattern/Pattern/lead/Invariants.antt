@@ -1,5 +1,5 @@
 use Rattle.std.proofs.Common.{◌≡◌, ◌+◌, drop, vec_items}
-use Rattle.kinds.specs.Fragments.{sum_least}
+use Rattle.patterns.specs.Fragments.{sum_least}
 use Rattle.engine.specs.Compiling.{part_items}
 use Rattle.engine.proofs.pattern.Pattern.lead.Given as goal
 

@@ -2,8 +2,8 @@ use Rattle.std.proofs.Common.{◌+◌, ◌&&◌, length, sym, ap, ◌∙◌, ap�
 use lib.ListN.{length-map}
 use Rattle.std.specs.Ordering.{is_ge, is_le, nat_cmp}
 use Rattle.std.specs.Cmp.Lexicographic.{slice_cmp}
-use Rattle.kinds.specs.Patterns.{compared}
-use Rattle.kinds.specs.Search.{stretch}
+use Rattle.patterns.specs.Patterns.{compared}
+use Rattle.patterns.specs.Search.{stretch}
 use Rattle.engine.specs.Codes.{codes_of}
 use Rattle.engine.proofs.Comparing.{range_is}
 use Rattle.engine.proofs.reach.RunRange.stands_at.Goals as goal

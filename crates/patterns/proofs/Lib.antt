@@ -1,0 +1,13 @@
+pub mod Anchors
+pub mod Backs
+pub mod Compiled
+pub mod Decisions
+pub mod Follows
+pub mod Mirrors
+pub mod Refusals
+pub mod Searches
+pub mod Sound
+pub mod Steps
+pub mod Texts
+pub mod Vectors
+pub mod Whole

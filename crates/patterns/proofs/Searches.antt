@@ -1,5 +1,5 @@
 -- The search by fragments decides as the rule does: to take the least end of each fragment loses no placement.
-use Rattle.std.proofs.Common.{◌≡◌, ℕ, zero, suc, ◌+◌, ◌-◌, ◌<◌, ◌≤◌, Bool, true, false, cond, ◌&&◌, ◌||◌, leb, ◌↔◌, List, [], ◌∷◌, ◌++◌, length, take, drop, Some, None, Decides, Option, sym, refl, ap, ◌∙◌, subst, subst₂, inl, inr, ⊎_elim, zero-add, arith, take-add}
+use Rattle.std.proofs.Common.{◌≡◌, ℕ, zero, suc, ◌+◌, ◌-◌, ◌<◌, ◌≤◌, Bool, true, false, cond, ◌&&◌, ◌||◌, leb, ◌↔◌, List, [], ◌∷◌, ◌++◌, length, take, drop, is_some, Some, None, Decides, Option, sym, refl, ap, ◌∙◌, subst, subst₂, inl, inr, ⊎_elim, zero-add, arith, take-add}
 use Rattle.std.specs.List.{AllByRecursion as All}
 use Rattle.std.proofs.ByRecursion.{All-push}
 use Rattle.std.proofs.lemmas.List.{append-nil, append_assoc, length-append, length-take, length-drop, take-append-drop, take_at, drop_at, drop-drop, nil_from_length}
@@ -9,7 +9,7 @@ use Rattle.patterns.specs.Fragments.{Fragment, fragments, cut_from, bodies, sum,
 use Rattle.patterns.specs.Grammar.{Placed, Position, start, may_end, behind, Ordered}
 use Rattle.patterns.specs.Patterns.{Item, literal, any, group, range, other, gap, AtMost, Matches, Cut, Allowed, Placement, at_most, cuts, hits}
 use Rattle.patterns.specs.Spans.{Spans, Ends}
-use Rattle.patterns.specs.Search.{stretch, ends_at, least_end_from, least_end, found, FoundExactly}
+use Rattle.patterns.specs.Search.{stretch, ends_at, least_end_from, least_end, search_end, EndsLeast, FoundExactly}
 use Rattle.patterns.specs.declared.reference.Reference.{Reference}
 use Rattle.patterns.specs.declared.reference.Reference.TheVariants.{Front, Anywhere}
 use Rattle.patterns.proofs.Decisions.{at_most_decides, cuts_decides, hits_exactly}
@@ -229,22 +229,29 @@ row_apart row xs s e gaps h = omega (arith, h.ordered, length_stretch xs s e h.i
 
 -- Fragments, one behind the other.
 
--- each starts at least its break behind the end of the one before it; only the first has a bound on its start
-abbrev pub Chain : List Fragment → ℕ → Option ℕ → List ℕ → Type 0
-Chain [] at until xs = Unit {0}
-Chain (f ∷ fs) at until xs = (e : ℕ) × Ends (bodies f.body) (at + f.break) until xs e × Chain fs e None xs
+-- each starts at least its break behind the end of the one before it, only the first has a bound on its start, and the last
+-- ends at e
+abbrev pub Chain : List Fragment → ℕ → Option ℕ → List ℕ → ℕ → Type 0
+Chain [] at until xs e = at ≡ e
+Chain (f ∷ fs) at until xs e = (m : ℕ) × Ends (bodies f.body) (at + f.break) until xs m × Chain fs m None xs e
 
--- what lies behind a place lies behind an earlier one
-chain_earlier : (fs : List Fragment) (a b : ℕ) (until : Option ℕ) (xs : List ℕ) → a ≤ b → Chain fs b until xs → Chain fs a until xs
-chain_earlier [] a b until xs h c = tt
-chain_earlier (f ∷ fs) a b until xs h (e, ends, more) =
-    (e, record { begins = ends.begins; late = omega (arith, ends.late); early = ends.early; spans = ends.spans }, more)
+-- what lies behind a place lies behind an earlier one, and ends no later
+chain_earlier : (fs : List Fragment) (a b : ℕ) (until : Option ℕ) (xs : List ℕ) (e : ℕ)
+    → a ≤ b → Chain fs b until xs e → (e' : ℕ) × Chain fs a until xs e' × (e' ≤ e)
+chain_earlier [] a b until xs e h c = (a, refl, omega arith)
+chain_earlier (f ∷ fs) a b until xs e h (m, ends, more) =
+    (e, (m, record { begins = ends.begins; late = omega (arith, ends.late); early = ends.early; spans = ends.spans }, more), omega arith)
 
--- the search finds the fragments exactly when they lie so: the least end of each leaves the most room for the next
-pub found_decides : (fs : List Fragment) (at : ℕ) (until : Option ℕ) (xs : List ℕ) → Decides (found fs at until xs) (Chain fs at until xs)
-found_decides [] at until xs = (λ _. tt, λ _. refl)
-found_decides (f ∷ fs) at until xs =
-    go (least_end items from until xs) (least_end_exactly items from until xs) (λ e. found_decides fs e None xs)
+-- the least end of fragments that lie so, or none
+abbrev LeastChain : List Fragment → ℕ → Option ℕ → List ℕ → Option ℕ → Type 0
+LeastChain fs at until xs None = (e : ℕ) → Chain fs at until xs e → ⊥
+LeastChain fs at until xs (Some e) = Chain fs at until xs e × ((e' : ℕ) → Chain fs at until xs e' → e ≤ e')
+
+-- the search ends there: the least end of each leaves the most room for the next
+search_end_exactly : (fs : List Fragment) (at : ℕ) (until : Option ℕ) (xs : List ℕ) → LeastChain fs at until xs (search_end fs at until xs)
+search_end_exactly [] at until xs = (refl, λ e' h. omega arith)
+search_end_exactly (f ∷ fs) at until xs =
+    go (least_end items from until xs) (least_end_exactly items from until xs) (λ m. search_end_exactly fs m None xs)
   where
     items : List Item
     items = bodies f.body
@@ -252,11 +259,19 @@ found_decides (f ∷ fs) at until xs =
     from : ℕ
     from = at + f.break
 
-    go : (r : Option ℕ) → LeastEnd items from until xs r → ((e : ℕ) → Decides (found fs e None xs) (Chain fs e None xs))
-        → Decides (elim r [ None ↦ false | Some e ↦ found fs e None xs ]) (Chain (f ∷ fs) at until xs)
-    go None none more = (λ y. absurd (false≢true y), λ h. absurd (none h.0 h.1))
-    go (Some e) (ends, first) more =
-        (λ y. (e, ends, (more e).0 y), λ h. (more e).1 (chain_earlier fs e h.0 None xs (first h.0 h.1) h.2))
+    behind : (m : ℕ) → Ends items from until xs m → ((m' : ℕ) → Ends items from until xs m' → m ≤ m') → (r : Option ℕ)
+        → LeastChain fs m None xs r → LeastChain (f ∷ fs) at until xs r
+    behind m ends first None none =
+        λ e h. let (e', more, no_later) = chain_earlier fs m h.0 None xs e (first h.0 h.1) h.2 in none e' more
+    behind m ends first (Some e) (chain, best) = (
+      (m, ends, chain),
+      λ e' h. let (e'', more, no_later) = chain_earlier fs m h.0 None xs e' (first h.0 h.1) h.2 in omega (arith, best e'' more),
+    )
+
+    go : (r : Option ℕ) → LeastEnd items from until xs r → ((m : ℕ) → LeastChain fs m None xs (search_end fs m None xs))
+        → LeastChain (f ∷ fs) at until xs (elim r [ None ↦ None | Some m ↦ search_end fs m None xs ])
+    go None none more = λ e h. none h.0 h.1
+    go (Some m) (ends, first) more = behind m ends first (search_end fs m None xs) (more m)
 
 -- How items are cut into fragments.
 
@@ -284,66 +299,65 @@ module _ (break : ℕ) (body row : List Placed) (q : Placed) (qs : List Placed) 
 abbrev pub Right : Placed → Type 0
 Right q = wrong q.item ≡ false
 
--- some placement of the items
-abbrev pub Somewhere : List Placed → ℕ → Option ℕ → List ℕ → Type 0
-Somewhere qs from until xs = (e : ℕ) × Ends (bodies qs) from until xs e
-
 -- a placement of three parts: the second and the third span what stands behind the first
-somewhere_joined : (ps row qs : List Placed) (from : ℕ) (until : Option ℕ) (xs : List ℕ) (m : ℕ)
-    → Ends (bodies ps) from until xs m → All Plain row → some endless row ≡ true → Somewhere qs (m + sum least row) None xs
-    → Somewhere (ps ++ (row ++ qs)) from until xs
-somewhere_joined ps row qs from until xs m first gaps y (e, last) =
+ends_joined : (ps row qs : List Placed) (from : ℕ) (until : Option ℕ) (xs : List ℕ) (m e : ℕ)
+    → Ends (bodies ps) from until xs m → All Plain row → some endless row ≡ true → Ends (bodies qs) (m + sum least row) None xs e
+    → Ends (bodies (ps ++ (row ++ qs))) from until xs e
+ends_joined ps row qs from until xs m e first gaps y last =
     let between = row_spans row xs m last.begins gaps y last.late (omega (arith, last.spans.ordered, last.spans.inside)) in
     let both = spans_joined (bodies row) (bodies qs) xs m last.begins e between last.spans in
     let all = spans_joined (bodies ps) (bodies row ++ bodies qs) xs first.begins m e first.spans both in
     let items : bodies ps ++ (bodies row ++ bodies qs) ≡ bodies (ps ++ (row ++ qs)) = simp bodies_append in
-    (e, record { begins = first.begins; late = first.late; early = first.early; spans = subst (λ l. Spans l xs first.begins e) items all })
+    record { begins = first.begins; late = first.late; early = first.early; spans = subst (λ l. Spans l xs first.begins e) items all }
 
 -- and back
-somewhere_parted : (ps row qs : List Placed) (from : ℕ) (until : Option ℕ) (xs : List ℕ)
-    → All Plain row → Somewhere (ps ++ (row ++ qs)) from until xs
-    → (m : ℕ) × Ends (bodies ps) from until xs m × Somewhere qs (m + sum least row) None xs
-somewhere_parted ps row qs from until xs gaps (e, h) =
+ends_parted : (ps row qs : List Placed) (from : ℕ) (until : Option ℕ) (xs : List ℕ) (e : ℕ)
+    → All Plain row → Ends (bodies (ps ++ (row ++ qs))) from until xs e
+    → (m : ℕ) × Ends (bodies ps) from until xs m × Ends (bodies qs) (m + sum least row) None xs e
+ends_parted ps row qs from until xs e gaps h =
     let items : bodies (ps ++ (row ++ qs)) ≡ bodies ps ++ (bodies row ++ bodies qs) = simp bodies_append in
     let all = subst (λ l. Spans l xs h.begins e) items h.spans in
     let (m, first, more) = spans_parted (bodies ps) (bodies row ++ bodies qs) xs h.begins e all in
     let (n, between, last) = spans_parted (bodies row) (bodies qs) xs m e more in
     let front : Ends (bodies ps) from until xs m = record { begins = h.begins; late = h.late; early = h.early; spans = first } in
     let back : Ends (bodies qs) (m + sum least row) None xs e = record { begins = n; late = row_apart row xs m n gaps between; early = tt; spans = last } in
-    (m, front, (e, back))
+    (m, front, back)
 
--- the fragments of some items lie one behind the other exactly when the items have a placement
-chain_exactly : (qs : List Placed) (p : Position) (break at : ℕ) (until : Option ℕ) (xs : List ℕ) (body row : List Placed)
+-- the fragments of some items lie one behind the other up to an end exactly when the items have a placement that ends there
+chain_exactly : (qs : List Placed) (p : Position) (break at : ℕ) (until : Option ℕ) (xs : List ℕ) (e : ℕ) (body row : List Placed)
     → Ordered p qs → (may_end p ≡ true → row ≡ []) → All Plain row → All Right qs
-    → Chain (cut_from break body row qs) at until xs ↔ Somewhere (body ++ (row ++ qs)) (at + break) until xs
-chain_exactly [] p break at until xs body row may none gaps right =
+    → Chain (cut_from break body row qs) at until xs e ↔ Ends (bodies (body ++ (row ++ qs))) (at + break) until xs e
+chain_exactly [] p break at until xs e body row may none gaps right =
     let same : body ≡ body ++ (row ++ []) = sym (append-nil body) ∙ ap (λ r. body ++ (r ++ [])) (sym (none may)) in
-    subst (λ l. Chain (cut_from break body row []) at until xs ↔ Somewhere l (at + break) until xs) same (λ h. (h.0, h.1), λ h. (h.0, h.1, tt))
-chain_exactly (q ∷ qs) p break at until xs body row (fits, order) none gaps (ok, right) =
+    subst
+    (λ l. Chain (cut_from break body row []) at until xs e ↔ Ends (bodies l) (at + break) until xs e)
+    same
+    (λ h. subst (Ends (bodies body) (at + break) until xs) h.2 h.1, λ h. (e, h, refl))
+chain_exactly (q ∷ qs) p break at until xs e body row (fits, order) none gaps (ok, right) =
     elim (cases_Bool (is_gap q.item)) [
       | inl y ↦
           subst₂
-          (λ fs l. Chain fs at until xs ↔ Somewhere (body ++ l) (at + break) until xs)
+          (λ fs l. Chain fs at until xs e ↔ Ends (bodies (body ++ l)) (at + break) until xs e)
           (sym (cut_gap break body row q qs y))
           (append_assoc row (q ∷ []) qs)
-          (chain_exactly qs (behind q.item) break at until xs body (row ++ q ∷ []) order
-          (λ e. absurd (both_ways _ (gap_goes_on q.item y) e)) (All-push Plain row q gaps (y, ok)) right)
+          (chain_exactly qs (behind q.item) break at until xs e body (row ++ q ∷ []) order
+          (λ d. absurd (both_ways _ (gap_goes_on q.item y) d)) (All-push Plain row q gaps (y, ok)) right)
       | inr n ↦
           elim (cases_Bool (some endless row)) [
             | inl y ↦
-                let more = λ (e : ℕ). chain_exactly qs (behind q.item) (sum least row) e None xs (q ∷ []) [] order (λ _. refl) tt right in
+                let more = λ (m : ℕ). chain_exactly qs (behind q.item) (sum least row) m None xs e (q ∷ []) [] order (λ _. refl) tt right in
                 subst
-                (λ fs. Chain fs at until xs ↔ Somewhere (body ++ (row ++ q ∷ qs)) (at + break) until xs)
+                (λ fs. Chain fs at until xs e ↔ Ends (bodies (body ++ (row ++ q ∷ qs))) (at + break) until xs e)
                 (sym (cut_thing break body row q qs n y)) (
-                  λ h. somewhere_joined body row (q ∷ qs) (at + break) until xs h.0 h.1 gaps y ((more h.0).0 h.2),
-                  λ h. let (m, first, last) = somewhere_parted body row (q ∷ qs) (at + break) until xs gaps h in (m, first, (more m).1 last),
+                  λ h. ends_joined body row (q ∷ qs) (at + break) until xs h.0 e h.1 gaps y ((more h.0).0 h.2),
+                  λ h. let (m, first, last) = ends_parted body row (q ∷ qs) (at + break) until xs e gaps h in (m, first, (more m).1 last),
                 )
             | inr m ↦
                 subst₂
-                (λ fs l. Chain fs at until xs ↔ Somewhere l (at + break) until xs)
+                (λ fs l. Chain fs at until xs e ↔ Ends (bodies l) (at + break) until xs e)
                 (sym (cut_held break body row q qs n m))
                 (simp append_assoc)
-                (chain_exactly qs (behind q.item) break at until xs (body ++ (row ++ q ∷ [])) [] order (λ _. refl) tt right)
+                (chain_exactly qs (behind q.item) break at until xs e (body ++ (row ++ q ∷ [])) [] order (λ _. refl) tt right)
           ]
     ]
 
@@ -372,17 +386,39 @@ wrong_none (q ∷ qs) o e =
 pub limits_right : (qs : List Placed) → limit_place qs ≡ None → All Right qs
 limits_right qs e = (wrong_none qs None (fragments_none (fragments 0 qs) 0 (wrong_place None qs) e)).1
 
--- The theorem.
+-- The theorems.
 
--- within the limits the search finds exactly what has a placement
-pub found_somewhere : (qs : List Placed) (lo : ℕ) (until : Option ℕ) (xs : List ℕ) → Ordered start qs → limit_place qs ≡ None
-    → Decides (found (fragments lo qs) 0 until xs) (Somewhere qs lo until xs)
-found_somewhere qs lo until xs order within =
-    let (there, back) = chain_exactly qs start lo 0 until xs [] [] order (λ _. refl) tt (limits_right qs within) in
-    subst
-    (λ n. Decides (found (fragments lo qs) 0 until xs) (Somewhere qs n until xs))
-    (zero-add lo)
-    (Decides-like (found (fragments lo qs) 0 until xs) there back (found_decides (fragments lo qs) 0 until xs))
+-- within the limits the search ends at the least end of a placement of all items
+pub ends_least : EndsLeast
+ends_least qs least until xs order within =
+    least_end_is (bodies qs) least until xs (search_end fs 0 until xs) (ends (search_end fs 0 until xs) (search_end_exactly fs 0 until xs))
+  where
+    fs : List Fragment
+    fs = fragments least qs
+
+    exactly : (e : ℕ) → Chain fs 0 until xs e ↔ Ends (bodies qs) least until xs e
+    exactly e =
+        subst
+        (λ n. Chain fs 0 until xs e ↔ Ends (bodies qs) n until xs e)
+        (zero-add least)
+        (chain_exactly qs start least 0 until xs e [] [] order (λ _. refl) tt (limits_right qs within))
+
+    ends : (r : Option ℕ) → LeastChain fs 0 until xs r → LeastEnd (bodies qs) least until xs r
+    ends None none = λ e h. none e ((exactly e).1 h)
+    ends (Some e) (chain, best) = ((exactly e).0 chain, λ e' h. best e' ((exactly e').1 h))
+
+-- some placement of the items
+abbrev Somewhere : List Item → ℕ → Option ℕ → List ℕ → Type 0
+Somewhere items from until xs = (e : ℕ) × Ends items from until xs e
+
+-- there is a least end exactly when there is a placement
+pub somewhere : (items : List Item) (from : ℕ) (until : Option ℕ) (xs : List ℕ)
+    → Decides (is_some (least_end items from until xs)) (Somewhere items from until xs)
+somewhere items from until xs = go (least_end items from until xs) (least_end_exactly items from until xs)
+  where
+    go : (r : Option ℕ) → LeastEnd items from until xs r → Decides (is_some r) (Somewhere items from until xs)
+    go None none = (λ y. absurd (false≢true y), λ h. absurd (none h.0 h.1))
+    go (Some e) (ends, first) = (λ _. (e, ends), λ _. refl)
 
 -- a span, with what may stand before and after it, is a placement
 pub spans_placement : (r : Reference) (items : List Item) (xs : List ℕ) (s e : ℕ)
@@ -414,29 +450,37 @@ placement_spans r items xs p =
     let spans : Spans items xs s e = record { ordered = omega arith; inside = omega arith; cut = subst (Cut items) same p.cut } in
     (s, e, spans, subst (Allowed r s) rest p.allowed)
 
--- where the bounds on the start are what may stand before, the search decides as the rule does
-found_hits : (r : Reference) (qs : List Placed) (from : ℕ) (until : Option ℕ) (xs : List ℕ)
-    → Ordered start qs → limit_place qs ≡ None → ((s after : ℕ) → ((from ≤ s) × AtMost until s) ↔ Allowed r s after)
-    → found (fragments from qs) 0 until xs ≡ hits r (bodies qs) xs
-found_hits r qs from until xs order within bounds =
+-- where the bounds on the start are what may stand before, a least end decides as the rule does
+pub end_hits : (r : Reference) (items : List Item) (from : ℕ) (until : Option ℕ) (xs : List ℕ)
+    → ((s after : ℕ) → ((from ≤ s) × AtMost until s) ↔ Allowed r s after)
+    → is_some (least_end items from until xs) ≡ hits r items xs
+end_hits r items from until xs bounds =
     same_from_decides
-    (found (fragments from qs) 0 until xs)
-    (hits r (bodies qs) xs)
-    (Decides-like _ there back (found_somewhere qs from until xs order within))
-    (hits_exactly r (bodies qs) xs)
+    (is_some (least_end items from until xs))
+    (hits r items xs)
+    (Decides-like _ there back (somewhere items from until xs))
+    (hits_exactly r items xs)
   where
-    there : Somewhere qs from until xs → Placement r (bodies qs) xs
-    there (e, h) = spans_placement r (bodies qs) xs h.begins e h.spans ((bounds h.begins (length xs - e)).0 (h.late, h.early))
+    there : Somewhere items from until xs → Placement r items xs
+    there (e, h) = spans_placement r items xs h.begins e h.spans ((bounds h.begins (length xs - e)).0 (h.late, h.early))
 
-    back : Placement r (bodies qs) xs → Somewhere qs from until xs
+    back : Placement r items xs → Somewhere items from until xs
     back h =
-        let (s, e, spans, ok) = placement_spans r (bodies qs) xs h in
+        let (s, e, spans, ok) = placement_spans r items xs h in
         let (late, early) = (bounds s (length xs - e)).1 ok in
         (e, record { begins = s; late = late; early = early; spans = spans })
 
+-- from the front
+pub front_hits : (least most : ℕ) (items : List Item) (xs : List ℕ) → is_some (least_end items least (Some most) xs) ≡ hits (Front least most) items xs
+front_hits least most items xs = end_hits (Front least most) items least (Some most) xs (λ s after. (λ h. omega arith, λ h. omega arith))
+
+-- and anywhere
+pub anywhere_hits : (items : List Item) (xs : List ℕ) → is_some (least_end items 0 None xs) ≡ hits Anywhere items xs
+anywhere_hits items xs = end_hits Anywhere items 0 None xs (λ s after. (λ _. tt, λ _. (omega arith, tt)))
+
 -- within the limits, searching by fragments decides as the rule does
 pub found_exactly : FoundExactly
-found_exactly qs lo hi xs order within = (
-  found_hits (Front lo hi) qs lo (Some hi) xs order within (λ s after. (λ h. omega arith, λ h. omega arith)),
-  found_hits Anywhere qs 0 None xs order within (λ s after. (λ _. tt, λ _. (omega arith, tt))),
+found_exactly qs least most xs order within = (
+  ap is_some (ends_least qs least (Some most) xs order within) ∙ front_hits least most (bodies qs) xs,
+  ap is_some (ends_least qs 0 None xs order within) ∙ anywhere_hits (bodies qs) xs,
 )

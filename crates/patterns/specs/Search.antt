@@ -1,5 +1,5 @@
 -- The search by fragments: what it is to find, and the theorem that it decides as the rule does.
-use Rattle.std.specs.Prelude.{◌≡◌, ℕ, zero, suc, ◌+◌, ◌-◌, Bool, true, false, ◌&&◌, List, [], ◌∷◌, reverse, length, take, drop, Some, None, Option, nat_le}
+use Rattle.std.specs.Prelude.{◌≡◌, ℕ, zero, suc, ◌+◌, ◌-◌, Bool, true, false, ◌&&◌, List, [], ◌∷◌, reverse, length, take, drop, is_some, Some, None, Option, nat_le}
 use Rattle.patterns.specs.Fragments.{Fragment, fragments, bodies, limit_place, mirrored_placed}
 use Rattle.patterns.specs.Grammar.{Placed, Ordered, start}
 use Rattle.patterns.specs.Patterns.{Item, at_most, cuts, hits, same}
@@ -27,11 +27,22 @@ abbrev pub least_end : List Item → ℕ → Option ℕ → List ℕ → Option 
 least_end items from until xs = least_end_from items from until xs 0 (suc (length xs))
 
 -- Each fragment is looked for behind the least end of the one before it and its break; only the first has a bound on its
--- start.
+-- start. The end of the last one, or none where one is not found.
+abbrev pub search_end : List Fragment → ℕ → Option ℕ → List ℕ → Option ℕ
+search_end [] at until xs = Some at
+search_end (f ∷ fs) at until xs =
+    elim (least_end (bodies f.body) (at + f.break) until xs) [ None ↦ None | Some e ↦ search_end fs e None xs ]
+
+-- all fragments are found
 abbrev pub found : List Fragment → ℕ → Option ℕ → List ℕ → Bool
-found [] at until xs = true
-found (f ∷ fs) at until xs =
-    elim (least_end (bodies f.body) (at + f.break) until xs) [ None ↦ false | Some e ↦ found fs e None xs ]
+found fs at until xs = is_some (search_end fs at until xs)
+
+-- The theorem: within the limits, the search by fragments ends at the least end of a placement of all items.
+abbrev pub EndsLeast : Type 0
+EndsLeast =
+    (qs : List Placed) (least : ℕ) (until : Option ℕ) (xs : List ℕ)
+    → Ordered start qs → limit_place qs ≡ None
+    → search_end (fragments least qs) 0 until xs ≡ least_end (bodies qs) least until xs
 
 -- The theorem: within the limits, searching by fragments decides as the rule does.
 abbrev pub FoundExactly : Type 0

@@ -2,7 +2,7 @@
 ghost use Rattle.std.specs.Prelude.{◌≡◌, true};
 ghost use Rattle.patterns.specs.Patterns.{HitsExactly, MirroredAlike};
 ghost use Rattle.patterns.specs.Reader.{ReadsExactly, RefusesAtLongest};
-ghost use Rattle.patterns.specs.Search.{FoundExactly, FoundFromBack};
+ghost use Rattle.patterns.specs.Search.{EndsLeast, FoundExactly, FoundFromBack};
 
 use kinds::kind::Kind;
 
@@ -50,6 +50,14 @@ pub fn found_exactly() -> bool
 pub fn found_from_back() -> bool
     ensures answer { result ≡ true }
     ensures theorem { FoundFromBack }
+{
+    true
+}
+
+/// Within the limits, the search by fragments ends at the least end of a placement of all items.
+pub fn ends_least() -> bool
+    ensures answer { result ≡ true }
+    ensures theorem { EndsLeast }
 {
     true
 }

@@ -45,12 +45,12 @@ all_literals (gap m n ∷ is) h = let most = literals_within is in absurd (omega
 best_ended : (r : Reference) (old : Anchor) (front : List Item) (run : List ℕ) (back : List Item) (more : List Anchor)
     → best r old (ended front run back ++ more)
     ≡ best r (cond (replaces r (length old.codes) (length run)) (record { front = front; codes = run; back = back }) old) more
-best_ended Front old front [] back more = refl
-best_ended Front old front (c ∷ cs) back more =
-    ap (λ b. best Front (cond (b && leb (length old.codes) (suc (length cs))) (record { front = front; codes = c ∷ cs; back = back }) old) more) (sym (lt-ltb 0 (suc (length cs)) (omega arith)))
-best_ended Back old front [] back more = refl
-best_ended Back old front (c ∷ cs) back more =
-    ap (λ b. best Back (cond (b && ltb (length old.codes) (suc (length cs))) (record { front = front; codes = c ∷ cs; back = back }) old) more) (sym (lt-ltb 0 (suc (length cs)) (omega arith)))
+best_ended (Front least most) old front [] back more = refl
+best_ended (Front least most) old front (c ∷ cs) back more =
+    ap (λ b. best (Front least most) (cond (b && leb (length old.codes) (suc (length cs))) (record { front = front; codes = c ∷ cs; back = back }) old) more) (sym (lt-ltb 0 (suc (length cs)) (omega arith)))
+best_ended (Back least most) old front [] back more = refl
+best_ended (Back least most) old front (c ∷ cs) back more =
+    ap (λ b. best (Back least most) (cond (b && ltb (length old.codes) (suc (length cs))) (record { front = front; codes = c ∷ cs; back = back }) old) more) (sym (lt-ltb 0 (suc (length cs)) (omega arith)))
 best_ended Anywhere old front [] back more = refl
 best_ended Anywhere old front (c ∷ cs) back more =
     ap (λ b. best Anywhere (cond (b && leb (length old.codes) (suc (length cs))) (record { front = front; codes = c ∷ cs; back = back }) old) more) (sym (lt-ltb 0 (suc (length cs)) (omega arith)))

@@ -12,10 +12,10 @@ use Rattle.engine.specs.Codes.{not_past, ShiftsOf}
 use Rattle.engine.specs.Finding.{smaller_of, Bounds, LeastThrough, Sides, part_of}
 use Rattle.engine.specs.Openings.{Excluded, OpeningOf}
 use Rattle.engine.specs.Reading.{held}
-use Rattle.engine.specs.Sequences.{Searches}
+use Rattle.engine.specs.Said.{Searches}
 use Rattle.engine.specs.declared.fragment.Fragment.{Fragment}
 use Rattle.engine.specs.declared.opening.Opening.{Opening}
-use Rattle.engine.specs.declared.sequence.Sequence.{Sequence}
+use Rattle.engine.specs.declared.oriented.Oriented.{Oriented}
 use Rattle.engine.specs.declared.starts.Starts.{Starts}
 use Rattle.engine.proofs.Anchored.{codes_long, front_is, sides_of}
 use Rattle.engine.proofs.Openings.{through_excluded}
@@ -71,14 +71,14 @@ next_within codes xs place last (Some p) first =
     cond_both (leb p last) (Some p) None (NextFit codes xs place last) (λ _. first)
     (λ past q l k y. omega (arith, leb-false p last past, first.2 q l y))
 
-module _ (sequence : Sequence) (f : Fragment) (g : spec.Fragment) (s : Searches sequence f g) (starts : Starts) (xs : List ℕ) where
+module _ (sequence : Oriented) (f : Fragment) (g : spec.Fragment) (s : Searches sequence f g) (starts : Starts) (xs : List ℕ) where
   -- the anchor of the fragment's items
   abbrev a : Anchor
-  a = anchor sequence.offsets.reference (bodies g.body)
+  a = anchor sequence.reference (bodies g.body)
 
   -- what stands on its sides
   pub sides : Sides (held sequence.pattern) (held sequence.mirror) f a
-  sides = sides_of sequence.offsets.reference (held sequence.pattern) (held sequence.mirror) f g s
+  sides = sides_of sequence.reference (held sequence.pattern) (held sequence.mirror) f g s
 
   -- the fragment's bounds are in order
   pub bounds_of : (count : ℕ) → length (held sequence.pattern) ≡ count → Bounds count f
@@ -95,7 +95,7 @@ module _ (sequence : Sequence) (f : Fragment) (g : spec.Fragment) (s : Searches 
   -- where the literal that the fragment begins with does not stand near enough before a place, nothing ends through an anchor there
   pub none_through : (o : Opening) (p : ℕ) → OpeningOf (part_of (held sequence.pattern) f.first f.anchor) o → Excluded o xs p → LeastThrough a starts xs p None
   none_through o p opening =
-      let front = front_is sequence.offsets.reference (held sequence.pattern) (held sequence.mirror) f g s in
+      let front = front_is sequence.reference (held sequence.pattern) (held sequence.mirror) f g s in
       through_excluded a starts xs p o (subst (λ is. OpeningOf is o) (sym front) opening) sides.small.front_bounded (omega (arith, sides.small.short, s.coded))
 
   -- no place before the first one, and none past the last
@@ -112,7 +112,7 @@ module _ (sequence : Sequence) (f : Fragment) (g : spec.Fragment) (s : Searches 
   -- where there is no first place, there is no placement
   pub none_begins : length xs ≤ 4294967295 → 4294967295 < starts.from + f.lead → None ≡ least_end (bodies g.body) starts.from starts.until xs
   none_begins few far =
-      best_all a.front a.codes a.back starts.from starts.until xs (bodies g.body) (anchor_splits sequence.offsets.reference (bodies g.body)) (starts.from + f.lead) None
+      best_all a.front a.codes a.back starts.from starts.until xs (bodies g.body) (anchor_splits sequence.reference (bodies g.body)) (starts.from + f.lead) None
       (λ q l y. omega (arith, ((stands_decides a.codes xs q).0 y).0)) (best_none a.front a.codes a.back starts.from starts.until xs (starts.from + f.lead) (omega (arith, s.holds.leads)))
 
   module _ (codes : List ℕ) (stored : codes ≡ vec_items f.codes) (place last : ℕ) (fit : Option ℕ) (found : ShiftsOf f.shifts codes → fit ≡ not_past last (first_fit codes xs place)) where
@@ -128,7 +128,7 @@ module _ (sequence : Sequence) (f : Fragment) (g : spec.Fragment) (s : Searches 
     pub best_ends : (best : Option ℕ) → fit ≡ None → Best a starts xs place last best → best ≡ least_end (bodies g.body) starts.from starts.until xs
     best_ends best e h =
         let none : NextFit a.codes xs place last None = subst (NextFit a.codes xs place last) e next_place in
-        rw (anchor_splits sequence.offsets.reference (bodies g.body))
+        rw (anchor_splits sequence.reference (bodies g.body))
         (least_end_is _ starts.from starts.until xs best
         (best_least a.front a.codes a.back starts.from starts.until xs place best h.before
         (λ q end l x. ⊎_elim (λ past. h.beyond q end past x) (λ within. absurd (none q l within x.stands)) (cases_lt last q))))
@@ -153,7 +153,7 @@ module _ (sequence : Sequence) (f : Fragment) (g : spec.Fragment) (s : Searches 
             beyond = λ q e past x.
                 ⊎_elim
                 (λ far. rw is_new (no_less_smaller best end e (h.beyond q e far x)))
-                (λ no_less. no_less_more new (q + vec_len f.codes) e (omega (arith, x.behind.ordered, codes_long sequence.offsets.reference (held sequence.pattern) (held sequence.mirror) f g s)) no_less)
+                (λ no_less. no_less_more new (q + vec_len f.codes) e (omega (arith, x.behind.ordered, codes_long sequence.reference (held sequence.pattern) (held sequence.mirror) f g s)) no_less)
                 (narrow q past);
           }
 

@@ -1,23 +1,27 @@
--- The search for fragments, one behind the other.
-use Rattle.std.proofs.Common.{◌≡◌, ℕ, zero, suc, ◌+◌, ◌^◌, ◌<◌, ◌≤◌, true, false, List, [], ◌∷◌, ◌++◌, map, reverse, length, get_or, drop, Some, None, vec_items, Bool, Option, zero-add, sym, refl, ap, ◌∙◌, subst, ⊎_elim, arith}
-use mathlib.Core.Bool.{Bool-set}
+-- The search for fragments, one behind the other, by the numbers of the compiled ones.
+use Rattle.std.proofs.Common.{◌≡◌, ℕ, zero, suc, ◌+◌, ◌^◌, ◌<◌, ◌≤◌, List, [], ◌∷◌, ◌++◌, map, reverse, length, drop, Some, None, Option, zero-add, sym, refl, ap, ◌∙◌, subst, ⊎_elim, arith}
+use native.Mathlib.Nat.{ℕ_set}
+use Rattle.std.proofs.Props.{props}
 use mathlib.Core.List.{map-append, reverse-cons}
 use mathlib.Core.Logic.{∥∥₁_elim}
+use Rattle.std.specs.List.{slice_get}
 use Rattle.std.proofs.lemmas.Bool.{cases_lt}
 use Rattle.patterns.specs.Fragments as spec
 use Rattle.patterns.specs.Fragments.{bodies, fragments}
 use Rattle.patterns.specs.Grammar.{Placed}
 use Rattle.patterns.specs.Patterns.{Item}
-use Rattle.patterns.specs.Search.{least_end, found}
-use Rattle.patterns.specs.declared.reference.Reference.{Reference}
-use Rattle.patterns.proofs.Searches.{least_end_is}
+use Rattle.patterns.specs.Search.{least_end, search_end}
+use Rattle.patterns.proofs.Searches.{least_end_is, ends_least}
 use Rattle.engine.specs.Reading.{held}
-use Rattle.engine.specs.Searched.{Searched}
-use Rattle.engine.specs.Sequences.{Searches}
+use Rattle.engine.specs.Said.{HoldsAt, Searches, parts}
 use Rattle.engine.specs.declared.fragment.Fragment.{Fragment}
-use Rattle.engine.specs.declared.sequence.Sequence.{Sequence}
+use Rattle.engine.specs.declared.oriented.Oriented.{Oriented}
 use Rattle.engine.specs.declared.starts.Starts.{Starts}
-use Rattle.engine.proofs.Sounds.{AllSearched, opened, all_searched, opened_cut, cut_some}
+use Rattle.engine.proofs.Sounds.{Within, within, part_at, none_at, opened, opened_cut, cut_some, few_parts}
+
+-- two equations of ends are one
+option_nat_set : (b c : Option ℕ) → IsProp (b ≡ c)
+option_nat_set b c = hlevel (props, ℕ_set)
 
 -- a list reversed before each item is mapped, or after
 pub map_reverse : {X Y : Type 0} (f : X → Y) (xs : List X) → map f (reverse xs) ≡ reverse (map f xs)
@@ -29,123 +33,103 @@ map_reverse f (x ∷ xs) =
 least_end_past : (items : List Item) (from : ℕ) (until : Option ℕ) (xs : List ℕ) → length xs < from → None ≡ least_end items from until xs
 least_end_past items from until xs past = least_end_is items from until xs None (λ e h. omega (arith, h.late, h.spans.ordered, h.spans.inside))
 
--- where a fragment is not found, the search ends
-found_not : (g : spec.Fragment) (gs : List spec.Fragment) (at : ℕ) (until : Option ℕ) (xs : List ℕ)
-    → None ≡ least_end (bodies g.body) (at + g.break) until xs → found (g ∷ gs) at until xs ≡ false
-found_not g gs at until xs e = ap (λ o. elim o [ None ↦ false | Some end ↦ found gs end None xs ]) (sym e)
+-- where a fragment is not found, the search has no end
+ends_not : (g : spec.Fragment) (gs : List spec.Fragment) (at : ℕ) (until : Option ℕ) (xs : List ℕ)
+    → None ≡ least_end (bodies g.body) (at + g.break) until xs → search_end (g ∷ gs) at until xs ≡ None
+ends_not g gs at until xs e = ap (λ o. elim o [ None ↦ None | Some end ↦ search_end gs end None xs ]) (sym e)
 
 -- where it is found, the search goes on behind it
-found_next : (g : spec.Fragment) (gs : List spec.Fragment) (at : ℕ) (until : Option ℕ) (xs : List ℕ) (end : ℕ)
-    → Some end ≡ least_end (bodies g.body) (at + g.break) until xs → found (g ∷ gs) at until xs ≡ found gs end None xs
-found_next g gs at until xs end e = ap (λ o. elim o [ None ↦ false | Some end ↦ found gs end None xs ]) (sym e)
+ends_next : (g : spec.Fragment) (gs : List spec.Fragment) (at : ℕ) (until : Option ℕ) (xs : List ℕ) (end : ℕ)
+    → Some end ≡ least_end (bodies g.body) (at + g.break) until xs → search_end (g ∷ gs) at until xs ≡ search_end gs end None xs
+ends_next g gs at until xs end e = ap (λ o. elim o [ None ↦ None | Some end ↦ search_end gs end None xs ]) (sym e)
 
-module _ (r : Reference) (items mirror : List Placed) where
-  -- there are as many compiled fragments as fragments
-  searched_all : (fs : List Fragment) (gs : List spec.Fragment) (i : ℕ) → AllSearched r items mirror fs gs → length fs ≤ i → drop i gs ≡ []
-  searched_all [] [] zero h n = refl
-  searched_all [] [] (suc i) h n = refl
-  searched_all [] (g ∷ gs) i h n = absurd h
-  searched_all (f ∷ fs) [] i h n = absurd h
-  searched_all (f ∷ fs) (g ∷ gs) zero h n = absurd (omega arith)
-  searched_all (f ∷ fs) (g ∷ gs) (suc i) h n = searched_all fs gs i h.1 (omega arith)
-
-  -- the fragment that a compiled one is searched for stands at its place
-  searched_at : (fs : List Fragment) (gs : List spec.Fragment) (i : ℕ) (f : Fragment) → f ≡ get_or fs i f → AllSearched r items mirror fs gs → i < length fs
-      → (g : spec.Fragment) × (drop i gs ≡ g ∷ drop (suc i) gs) × Searched r items mirror f g
-  searched_at [] gs i f is h n = absurd (omega arith)
-  searched_at (x ∷ fs) [] i f is h n = absurd h
-  searched_at (x ∷ fs) (g ∷ gs) zero f is h n = (g, refl, subst (λ y. Searched r items mirror y g) (sym is) h.0)
-  searched_at (x ∷ fs) (g ∷ gs) (suc i) f is h n = searched_at fs gs i f is h.1 (omega arith)
-
--- the answer of the search for a compiled fragment of a sequence
-abbrev pub Least : Sequence → Fragment → ℕ → Option ℕ → List ℕ → Option ℕ → Type 0
+-- the answer of the search for a compiled fragment
+abbrev pub Least : Oriented → Fragment → ℕ → Option ℕ → List ℕ → Option ℕ → Type 0
 Least s f from until xs o = (g : spec.Fragment) → Searches s f g → o ≡ least_end (bodies g.body) from until xs
 
-module _ (s : Sequence) (starts : Starts) (xs : List ℕ) where
-  -- the fragments of the sequence
-  abbrev pub gs : List spec.Fragment
-  gs = fragments s.offsets.lo (held s.pattern)
+module _ (s : Oriented) (at : ℕ → Option Fragment) (starts : Starts) (xs : List ℕ) (holds : HoldsAt s at) where
+  -- what the whole search is to answer
+  abbrev pub whole : Option ℕ
+  whole = least_end (bodies (held s.pattern)) starts.from starts.until xs
 
-  -- what the search for them answers, the first of them starting where it may
-  abbrev pub all_found : Bool
-  all_found = found (fragments starts.from (held s.pattern)) 0 starts.until xs
+  -- the fragments, the first with the break where it may start
+  abbrev from_start : Option ℕ
+  from_start = search_end (fragments starts.from (held s.pattern)) 0 starts.until xs
 
-  -- what follows for a compiled fragment from its being searched for as one of them
-  at_fragment : (i : ℕ) (f : Fragment) → f ≡ get_or (vec_items s.fragments) i f → i < length (vec_items s.fragments) → (b c : Bool)
-      → ((g : spec.Fragment) → drop i gs ≡ g ∷ drop (suc i) gs → Searches s f g → b ≡ c) → b ≡ c
-  at_fragment i f is inside b c h =
-      ∥∥₁_elim s.sound (Bool-set b c) (λ sound.
-      let all = all_searched s.offsets.reference s.offsets.lo (held s.pattern) (held s.mirror) (vec_items s.fragments) sound in
-      let (g, there, k) = searched_at s.offsets.reference (held s.pattern) (held s.mirror) (vec_items s.fragments) gs i f is all inside in
-      h g there k)
+  -- an equation of ends follows from what the items are within
+  by_within : (b c : Option ℕ) → (Within s → b ≡ c) → b ≡ c
+  by_within b c h = ∥∥₁_elim s.accepted (option_nat_set b c) (λ k. h (within s k))
 
-  -- past the last compiled fragment there is none of them
-  past_all : (i : ℕ) → length (vec_items s.fragments) ≤ i → (b c : Bool) → (drop i gs ≡ [] → b ≡ c) → b ≡ c
-  past_all i past b c h =
-      ∥∥₁_elim s.sound (Bool-set b c) (λ sound.
-      let all = all_searched s.offsets.reference s.offsets.lo (held s.pattern) (held s.mirror) (vec_items s.fragments) sound in
-      h (searched_all s.offsets.reference (held s.pattern) (held s.mirror) (vec_items s.fragments) gs i all past))
+  -- the search by fragments answers it
+  whole_is : Within s → from_start ≡ whole
+  whole_is w = ends_least (held s.pattern) starts.from starts.until xs w.ordered w.limits
 
   -- where the first may start changes nothing but its break
-  first_opened : (g : spec.Fragment) → drop 0 gs ≡ g ∷ drop 1 gs → all_found ≡ found (record { break = starts.from; body = g.body } ∷ drop 1 gs) 0 starts.until xs
-  first_opened g is = ap (λ fs. found fs 0 starts.until xs) (sym (opened_cut (held s.pattern) starts.from s.offsets.lo [] []) ∙ ap (opened starts.from) is)
+  first_opened : (g : spec.Fragment) → drop 0 (parts s) ≡ g ∷ drop 1 (parts s)
+      → from_start ≡ search_end (record { break = starts.from; body = g.body } ∷ drop 1 (parts s)) 0 starts.until xs
+  first_opened g is = ap (λ fs. search_end fs 0 starts.until xs) (sym (opened_cut (held s.pattern) starts.from _ [] []) ∙ ap (opened starts.from) is)
 
   -- there is a first one
-  pub first_some : length (vec_items s.fragments) ≤ 0 → false ≡ all_found
-  first_some none = past_all 0 none false all_found (λ e. absurd (cut_some (held s.pattern) s.offsets.lo [] [] e))
+  pub first_some : at 0 ≡ None → None ≡ whole
+  first_some none = by_within None whole (λ w. absurd (cut_some (held s.pattern) _ [] [] (none_at s at holds 0 none)))
 
-  module _ (first : Fragment) (others : List Fragment) (whole : vec_items s.fragments ≡ first ∷ others) where
-    -- the first is searched for as the first
-    at_first : (b c : Bool) → ((g : spec.Fragment) → drop 0 gs ≡ g ∷ drop 1 gs → Searches s first g → b ≡ c) → b ≡ c
-    at_first = at_fragment 0 first (sym (ap (λ l. get_or l 0 first) whole)) (omega (arith, ap length whole))
+  -- the search ends where the first is not found
+  pub first_none : (f : Fragment) → at 0 ≡ Some f → Least s f starts.from starts.until xs None → None ≡ whole
+  first_none f is none =
+      by_within None whole (λ w.
+      let (g, there, k) = part_at s at holds w 0 f is in
+      sym (
+      sym (whole_is w)
+      ∙ first_opened g there
+      ∙ ends_not (record { break = starts.from; body = g.body }) (drop 1 (parts s)) 0 starts.until xs
+      (none g k ∙ ap (λ n. least_end (bodies g.body) n starts.until xs) (sym (zero-add starts.from)))))
 
-    -- and another as the one behind the first that stands at its place
-    at_other : (i : ℕ) (f : Fragment) → f ≡ get_or others i f → i < length others → (b c : Bool)
-        → ((g : spec.Fragment) → drop (suc i) gs ≡ g ∷ drop (suc (suc i)) gs → Searches s f g → b ≡ c) → b ≡ c
-    at_other i f is inside = at_fragment (suc i) f (is ∙ sym (ap (λ l. get_or l (suc i) f) whole)) (omega (arith, ap length whole))
+  -- the search behind a place has come to the fragment with a number
+  abbrev pub ComeTo : ℕ → ℕ → Type 0
+  ComeTo number end = whole ≡ search_end (drop number (parts s)) end None xs
 
-    -- the search ends where the first is not found
-    pub first_none : Least s first starts.from starts.until xs None → false ≡ all_found
-    first_none none =
-        at_first false all_found (λ g there k. sym (
-        first_opened g there
-        ∙ found_not (record { break = starts.from; body = g.body }) (drop 1 gs) 0 starts.until xs (none g k ∙ ap (λ n. least_end (bodies g.body) n starts.until xs) (sym (zero-add starts.from)))))
+  -- it comes to the second where the first is found
+  pub first_next : (f : Fragment) → at 0 ≡ Some f → (end : ℕ) → Least s f starts.from starts.until xs (Some end) → ComeTo 1 end
+  first_next f is end some =
+      by_within whole (search_end (drop 1 (parts s)) end None xs) (λ w.
+      let (g, there, k) = part_at s at holds w 0 f is in
+      sym (whole_is w)
+      ∙ first_opened g there
+      ∙ ends_next (record { break = starts.from; body = g.body }) (drop 1 (parts s)) 0 starts.until xs end
+      (some g k ∙ ap (λ n. least_end (bodies g.body) n starts.until xs) (sym (zero-add starts.from))))
 
-    -- the search behind a place has come to the i-th of the others
-    abbrev pub ComeTo : ℕ → ℕ → Type 0
-    ComeTo i end = all_found ≡ found (drop (suc i) gs) end None xs
+  module _ (number end : ℕ) (so_far : ComeTo number end) where
+    -- behind the last it has the end
+    pub come_all : at number ≡ None → Some end ≡ whole
+    come_all none = sym (so_far ∙ ap (λ l. search_end l end None xs) (none_at s at holds number none))
 
-    -- it comes to them where the first is found
-    pub first_next : (end : ℕ) → Least s first starts.from starts.until xs (Some end) → ComeTo 0 end
-    first_next end some =
-        at_first all_found (found (drop 1 gs) end None xs) (λ g there k.
-        first_opened g there
-        ∙ found_next (record { break = starts.from; body = g.body }) (drop 1 gs) 0 starts.until xs end (some g k ∙ ap (λ n. least_end (bodies g.body) n starts.until xs) (sym (zero-add starts.from))))
+    -- there is no ninth
+    pub come_ninth : 8 ≤ number → Some end ≡ whole
+    come_ninth past =
+        by_within (Some end) whole (λ w. sym (so_far ∙ ap (λ l. search_end l end None xs) (few_parts s w number past)))
 
-    module _ (i end : ℕ) (so_far : ComeTo i end) where
-      -- behind the last all are found
-      pub come_all : length others ≤ i → true ≡ all_found
-      come_all past = past_all (suc i) (omega (arith, ap length whole)) true all_found (λ none. sym (so_far ∙ ap (λ l. found l end None xs) none))
+    module _ (f : Fragment) (is : at number ≡ Some f) where
+      -- it ends where the fragment is not found
+      pub come_none : Least s f (end + f.gap) None xs None → None ≡ whole
+      come_none none =
+          by_within None whole (λ w.
+          let (g, there, k) = part_at s at holds w number f is in
+          sym (
+          so_far ∙ ap (λ l. search_end l end None xs) there
+          ∙ ends_not g (drop (suc number) (parts s)) end None xs (none g k ∙ ap (λ n. least_end (bodies g.body) (end + n) None xs) k.holds.break)))
 
-      module _ (f : Fragment) (is : f ≡ get_or others i f) (inside : i < length others) where
-        -- it ends where the fragment is not found
-        pub come_none : Least s f (end + f.gap) None xs None → false ≡ all_found
-        come_none none =
-            at_other i f is inside false all_found (λ g there k. sym (
-            so_far ∙ ap (λ l. found l end None xs) there
-            ∙ found_not g (drop (suc (suc i)) gs) end None xs (none g k ∙ ap (λ n. least_end (bodies g.body) (end + n) None xs) k.holds.break)))
+      -- it ends where the fragment could only start at a place that no list has
+      pub come_past : (end + f.gap < 2 ^ 64 → ⊥) → length xs < 2 ^ 64 → None ≡ whole
+      come_past far few =
+          let past : length xs < end + f.gap = ⊎_elim (λ l. absurd (far l)) (λ l. omega arith) (cases_lt (end + f.gap) (2 ^ 64)) in
+          come_none (λ g k. least_end_past (bodies g.body) (end + f.gap) None xs past)
 
-        -- it ends where the fragment could only start at a place that no list has
-        pub come_past : (end + f.gap < 2 ^ 64 → ⊥) → length xs < 2 ^ 64 → false ≡ all_found
-        come_past far few =
-            let past : length xs < end + f.gap = ⊎_elim (λ l. absurd (far l)) (λ l. omega arith) (cases_lt (end + f.gap) (2 ^ 64)) in
-            come_none (λ g k. least_end_past (bodies g.body) (end + f.gap) None xs past)
-
-        -- it goes on where the fragment is found
-        pub come_next : (next : ℕ) → Least s f (end + f.gap) None xs (Some next) → ComeTo (i + 1) next
-        come_next next some =
-            let one : suc (suc i) ≡ suc (i + 1) = omega arith in
-            at_other i f is inside all_found (found (drop (suc (i + 1)) gs) next None xs) (λ g there k.
-            so_far ∙ ap (λ l. found l end None xs) there
-            ∙ found_next g (drop (suc (suc i)) gs) end None xs next (some g k ∙ ap (λ n. least_end (bodies g.body) (end + n) None xs) k.holds.break)
-            ∙ ap (λ n. found (drop n gs) next None xs) one)
+      -- it goes on where the fragment is found
+      pub come_next : (next : ℕ) → Least s f (end + f.gap) None xs (Some next) → ComeTo (number + 1) next
+      come_next next some =
+          let one : suc number ≡ number + 1 = omega arith in
+          by_within whole (search_end (drop (number + 1) (parts s)) next None xs) (λ w.
+          let (g, there, k) = part_at s at holds w number f is in
+          so_far ∙ ap (λ l. search_end l end None xs) there
+          ∙ ends_next g (drop (suc number) (parts s)) end None xs next (some g k ∙ ap (λ n. least_end (bodies g.body) (end + n) None xs) k.holds.break)
+          ∙ ap (λ n. search_end (drop n (parts s)) next None xs) one)

@@ -3,11 +3,18 @@ use Rattle.std.proofs.Common.{◌≡◌, ℕ, zero, suc, ◌-◌, ◌<◌, List,
 use Rattle.std.specs.List.{slice_get}
 use Rattle.std.specs.Option.{option_map}
 use Rattle.patterns.specs.Fragments as spec
+use Rattle.patterns.specs.Fragments.{fragments}
+use Rattle.patterns.specs.Patterns.{least_offset}
 use Rattle.patterns.specs.Grammar.{Placed}
 use Rattle.patterns.specs.declared.reference.Reference.{Reference}
 use Rattle.engine.specs.Compiled.{Holds, Hold}
-use Rattle.engine.specs.Sequences.{numbers, shown}
+use Rattle.engine.specs.Reading.{held}
+use Rattle.engine.specs.Said.{Said, said, parts, HoldsOwn, HoldsAt}
+use Rattle.engine.specs.Searched.{HoldsEach}
+use Rattle.engine.specs.Sequences.{numbers, parts_said, shown}
 use Rattle.engine.specs.declared.fragment.Fragment.{Fragment}
+use Rattle.engine.specs.declared.oriented.Oriented.{Oriented}
+use Rattle.engine.proofs.Sounds.{oriented_twice}
 
 module _ (r : Reference) (items : List Placed) where
   -- the fragment that a compiled one holds stands at its place
@@ -29,19 +36,53 @@ module _ (r : Reference) (items : List Placed) where
   hold_none (x ∷ fs) (g ∷ gs) zero h e = absurd (grind arith)
   hold_none (x ∷ fs) (g ∷ gs) (suc k) h e = hold_none fs gs k h.1 e
 
-  -- a number that is not 0 is one more than another
-  at_number : (gs : List spec.Fragment) (number index : ℕ) → 0 < number → shown r gs number index ≡ option_map (numbers r index) (slice_get gs (number - 1))
-  at_number gs zero index h = absurd (omega arith)
-  at_number gs (suc k) index h = let back : k ≡ suc k - 1 = omega arith in ap (λ n. option_map (numbers r index) (slice_get gs n)) back
+-- a number that is not 0 is one more than another
+at_number : (s : Said) (number index : ℕ) → 0 < number → shown s number index ≡ option_map (numbers s.reference index) (slice_get (parts_said s) (number - 1))
+at_number s zero index h = absurd (omega arith)
+at_number s (suc k) index h = let back : k ≡ suc k - 1 = omega arith in ap (λ n. option_map (numbers s.reference index) (slice_get (parts_said s) n)) back
+
+-- the fragments that a pattern in the order of its search says are its fragments
+pub parts_same : (o : Oriented) → parts_said (said o) ≡ parts o
+parts_same o = ap (fragments (least_offset o.reference)) (oriented_twice o.reference (held o.pattern))
+
+-- there are as many compiled ones
+hold_length : (r : Reference) (items : List Placed) (fs : List Fragment) (gs : List spec.Fragment) → Hold r items fs gs → length fs ≡ length gs
+hold_length r items [] [] h = refl
+hold_length r items [] (g ∷ gs) h = absurd h
+hold_length r items (f ∷ fs) [] h = absurd h
+hold_length r items (f ∷ fs) (g ∷ gs) h = ap suc (hold_length r items fs gs h.1)
+
+module _ (o : Oriented) (fs : List Fragment) (own : HoldsOwn o fs) where
+  -- as many as it says
+  pub counted : length fs ≡ length (parts_said (said o))
+  counted = hold_length o.reference (held o.pattern) fs (parts o) own ∙ ap length (sym (parts_same o))
 
   -- where there is no such compiled fragment, nothing is shown
-  pub shown_none : (fs : List Fragment) (gs : List spec.Fragment) (number index : ℕ) → 0 < number → Hold r items fs gs → slice_get fs (number - 1) ≡ None → None ≡ shown r gs number index
-  shown_none fs gs number index some h e = sym (at_number gs number index some ∙ ap (option_map (numbers r index)) (hold_none fs gs (number - 1) h e))
+  pub shown_none : (number index : ℕ) → 0 < number → slice_get fs (number - 1) ≡ None → None ≡ shown (said o) number index
+  shown_none number index some e =
+      sym (at_number (said o) number index some
+      ∙ ap (λ gs. option_map (numbers o.reference index) (slice_get gs (number - 1))) (parts_same o)
+      ∙ ap (option_map (numbers o.reference index)) (hold_none o.reference (held o.pattern) fs (parts o) (number - 1) own e))
 
   -- the numbers of a compiled fragment are those that are shown
-  pub shown_some : (fs : List Fragment) (gs : List spec.Fragment) (number index : ℕ) (f : Fragment) → 0 < number → index < 256 → Hold r items fs gs → slice_get fs (number - 1) ≡ Some f → Some (f.gap, f.lead, vec_len f.codes, get_or f.shifts index 0) ≡ shown r gs number index
-  shown_some fs gs number index f some byte h e =
-      let found = hold_at fs gs (number - 1) f h e in
+  pub shown_some : (number index : ℕ) (f : Fragment) → 0 < number → index < 256 → slice_get fs (number - 1) ≡ Some f
+      → Some (f.gap, f.lead, vec_len f.codes, get_or f.shifts index 0) ≡ shown (said o) number index
+  shown_some number index f some byte e =
+      let found = hold_at o.reference (held o.pattern) fs (parts o) (number - 1) f own e in
       let same = found.2 in
       let long = f.codes.ok.0 ∙ ap length same.codes in
-      (λ i. Some (same.break i, same.leads i, long i, same.shifts index byte i)) ∙ sym (at_number gs number index some ∙ ap (option_map (numbers r index)) found.1)
+      (λ i. Some (same.break i, same.leads i, long i, same.shifts index byte i))
+      ∙ sym (at_number (said o) number index some
+      ∙ ap (λ gs. option_map (numbers o.reference index) (slice_get gs (number - 1))) (parts_same o)
+      ∙ ap (option_map (numbers o.reference index)) found.1)
+
+  -- by number too they hold the fragments
+  pub held_each : HoldsAt o (slice_get fs)
+  held_each = each fs (parts o) own
+    where
+      each : (fs : List Fragment) (gs : List spec.Fragment) → Hold o.reference (held o.pattern) fs gs → HoldsEach o.reference (held o.pattern) (slice_get fs) gs
+      each [] [] h k = tt
+      each [] (g ∷ gs) h k = absurd h
+      each (f ∷ fs) [] h k = absurd h
+      each (f ∷ fs) (g ∷ gs) h zero = h.0
+      each (f ∷ fs) (g ∷ gs) h (suc k) = each fs gs h.1 k

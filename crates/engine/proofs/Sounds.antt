@@ -1,38 +1,38 @@
 -- What the compiler makes can be searched for, and its search decides as the rule does.
-use Rattle.std.proofs.Common.{◌≡◌, ℕ, Bool, true, false, cond, List, [], ◌∷◌, ◌++◌, reverse, vec_items, Some, None, Ok, Err, Decides, Option, Result, sym, refl, ap, ◌∙◌, subst, inl, inr, arith}
-use mathlib.Core.Bool.{Bool-set}
-use mathlib.Core.Logic.{∥∥₁_elim}
-use Rattle.std.specs.List.{AllByRecursion as All}
-use Rattle.std.proofs.lemmas.Bool.{cases_Bool}
+use Rattle.std.proofs.Common.{◌≡◌, ℕ, zero, suc, ◌-◌, ◌≤◌, Bool, true, false, cond, leb, List, [], ◌∷◌, ◌++◌, reverse, length, drop, is_some, Some, None, Ok, Err, Option, Result, sym, refl, ap, ◌∙◌, subst, inl, inr, arith}
+use Rattle.std.specs.List.{slice_get, AllByRecursion as All}
+use Rattle.std.proofs.lemmas.Bool.{cases_Bool, leb-false, or_parts}
+use Rattle.std.proofs.lemmas.List.{drop_all}
 use Rattle.kinds.specs.Alphabet.{Alphabet}
 use Rattle.patterns.specs.Fragments as spec
-use Rattle.patterns.specs.Fragments.{fragments, cut_from, oriented, bodies, some, endless, is_gap, is_literal, bare_place, limit_place, first_place, mirrored_placed}
+use Rattle.patterns.specs.Fragments.{fragments, fragment_place, cut_from, oriented, bodies, some, span, sum, endless, is_gap, is_literal, bare_place, limit_place, first_place, mirrored_placed}
 use Rattle.patterns.specs.Grammar.{Placed, Ordered, start}
-use Rattle.patterns.specs.Patterns.{Placement, hits}
+use Rattle.patterns.specs.Patterns.{hits, least_offset, mirrored}
 use Rattle.patterns.specs.Reader.{items_of}
-use Rattle.patterns.specs.Search.{found}
+use Rattle.patterns.specs.Search.{least_end}
 use Rattle.patterns.specs.declared.reference.Reference.{Reference}
 use Rattle.patterns.specs.declared.reference.Reference.TheVariants.{Front, Back, Anywhere}
 use Rattle.patterns.specs.Spans.{Small}
 use Rattle.patterns.proofs.Anchors.{any_break, fragments_small, anchor_codes}
-use Rattle.patterns.proofs.Backs.{mirrored_placed_twice, limits_mirrored, literals_mirrored, found_from_back}
-use Rattle.patterns.proofs.Decisions.{hits_exactly}
-use Rattle.patterns.proofs.Searches.{found_exactly, cut_gap, cut_thing, cut_held}
+use Rattle.patterns.proofs.Backs.{bodies_mirrored, mirrored_placed_twice, limits_mirrored, literals_mirrored, ordered_mirrored}
+use Rattle.patterns.proofs.Mirrors.{mirrored_alike}
+use Rattle.patterns.proofs.Searches.{front_hits, anywhere_hits, kept_none, fragments_none, cut_gap, cut_thing, cut_held}
 use Rattle.patterns.proofs.Sound as reader
-use Rattle.engine.specs.Compiled.{Hold}
+use Rattle.engine.specs.Compiled.{Holds}
 use Rattle.engine.specs.Limits.{refusal}
 use Rattle.engine.specs.Reading.{held}
-use Rattle.engine.specs.Searched.{Searched, Sound}
-use Rattle.engine.specs.Sequences.{outcome, said, CompiledFrom}
+use Rattle.engine.specs.Said.{said, parts, HoldsAt, Searches}
+use Rattle.engine.specs.Searched.{Accepted, HoldsIf, HoldsEach}
+use Rattle.engine.specs.Sequences.{outcome}
 use Rattle.engine.specs.declared.cause.Cause.{Cause}
 use Rattle.engine.specs.declared.cause.Cause.TheVariants.{Grammar, Limit, NoLiteral}
 use Rattle.engine.specs.declared.fragment.Fragment.{Fragment}
-use Rattle.engine.specs.declared.sequence.Sequence.{Sequence}
+use Rattle.engine.specs.declared.oriented.Oriented.{Oriented}
 
 -- What the compiler makes.
 
 -- the items of a text that is accepted are those that the reader reads, and they are not refused
-outcome_items : {E : Type 0} (a : Alphabet E) (t : List ℕ) (qs : List Placed)
+pub outcome_items : {E : Type 0} (a : Alphabet E) (t : List ℕ) (qs : List Placed)
     → outcome a t ≡ Ok qs → (items_of a t ≡ Ok qs) × (refusal qs ≡ None)
 outcome_items a t qs e = go (items_of a t) e
   where
@@ -46,28 +46,22 @@ outcome_items a t qs e = go (items_of a t) e
     go (Ok ps) e = let (same, none) = accepted ps (refusal ps) e in (ap Ok same, ap refusal (sym same) ∙ none)
 
 -- what is put in the order of the search twice is as it was
-oriented_twice : (r : Reference) (qs : List Placed) → oriented r (oriented r qs) ≡ qs
-oriented_twice Front qs = refl
-oriented_twice Back qs = mirrored_placed_twice qs
+pub oriented_twice : (r : Reference) (qs : List Placed) → oriented r (oriented r qs) ≡ qs
+oriented_twice (Front least most) qs = refl
+oriented_twice (Back least most) qs = mirrored_placed_twice qs
 oriented_twice Anywhere qs = refl
 
--- what is compiled from a text is sound
-pub compiled_sound : {E : Type 0} (a : Alphabet E) (t : List ℕ) (r : Reference) (lo : ℕ) (qs items mirror : List Placed) (fs : List Fragment)
-    → outcome a t ≡ Ok qs → items ≡ oriented r qs → mirror ≡ mirrored_placed items → Hold r items fs (fragments lo items)
-    → Sound r lo items mirror fs
-compiled_sound a t r lo qs items mirror fs read order mirrors held =
+-- what is compiled from a text can be searched for
+pub compiled_accepted : {E : Type 0} (a : Alphabet E) (t : List ℕ) (r : Reference) (qs items mirror : List Placed)
+    → outcome a t ≡ Ok qs → items ≡ oriented r qs → mirror ≡ mirrored_placed items → Accepted r items mirror
+compiled_accepted a t r qs items mirror read order mirrors =
     let (text, accepted) = outcome_items a t qs read in
     let back : oriented r items ≡ qs = ap (oriented r) order ∙ oriented_twice r qs in
     record {
       ordered = subst (Ordered start) (sym back) (reader.sound a t qs text).0;
       accepted = ap refusal back ∙ accepted;
       mirrors = mirrors;
-      compiled = held;
     }
-
--- what a compiled sequence says are the items of its text
-pub said_items : {E : Type 0} (a : Alphabet E) (t : List ℕ) (r : Reference) (lo hi : ℕ) (s : Sequence) (c : CompiledFrom a t r lo hi s) → said s ≡ c.items
-said_items a t r lo hi s c = (λ k. oriented (c.reference k) (c.pattern k)) ∙ oriented_twice r c.items
 
 -- What the search relies on.
 
@@ -95,47 +89,95 @@ none_bare (f ∷ fs) e = go (some is_literal f.body) e (none_bare fs)
     go true e more = (refl, more e)
     go false e more = absurd (grind arith)
 
--- the items of a sound sequence, in the order of its search, are within the limits, and each of their fragments has a literal
+-- what is known of the items of a sequence, in the order of its search
+pub record Within (s : Oriented) : Type 0 where
+  pub ordered : Ordered start (held s.pattern)
+  pub limits : limit_place (held s.pattern) ≡ None
+  pub literals : All WithLiteral (parts s)
+  pub mirrors : held s.mirror ≡ mirrored_placed (held s.pattern)
+
+-- accepted items are in the grammar's order and within the limits, and each of their fragments has a literal
 searchable : (r : Reference) (items : List Placed) (break : ℕ) → Ordered start (oriented r items) → refusal (oriented r items) ≡ None
-    → (limit_place items ≡ None) × All WithLiteral (fragments break items)
-searchable Front items break order accepted =
+    → Ordered start items × (limit_place items ≡ None) × All WithLiteral (fragments break items)
+searchable (Front least most) items break order accepted =
     let (within, bare) = accepted_parts items accepted in
-    (within, any_break (λ b. some is_literal b ≡ true) items 0 break [] [] (none_bare (fragments 0 items) bare))
-searchable Back items break order accepted =
-    let said = mirrored_placed items in
-    let (within, bare) = accepted_parts said accepted in
+    (order, within, any_break (λ b. some is_literal b ≡ true) items 0 break [] [] (none_bare (fragments 0 items) bare))
+searchable (Back least most) items break order accepted =
+    let text = mirrored_placed items in
+    let (within, bare) = accepted_parts text accepted in
     subst
-    (λ l. (limit_place l ≡ None) × All WithLiteral (fragments break l))
+    (λ l. Ordered start l × (limit_place l ≡ None) × All WithLiteral (fragments break l))
     (mirrored_placed_twice items)
-    (limits_mirrored said order within, literals_mirrored said break order (none_bare (fragments 0 said) bare))
+    (ordered_mirrored text order, limits_mirrored text order within, literals_mirrored text break order (none_bare (fragments 0 text) bare))
 searchable Anywhere items break order accepted =
     let (within, bare) = accepted_parts items accepted in
-    (within, any_break (λ b. some is_literal b ≡ true) items 0 break [] [] (none_bare (fragments 0 items) bare))
+    (order, within, any_break (λ b. some is_literal b ≡ true) items 0 break [] [] (none_bare (fragments 0 items) bare))
 
--- compiled fragments that can be searched for, one for one
-abbrev pub AllSearched : Reference → List Placed → List Placed → List Fragment → List spec.Fragment → Type 0
-AllSearched r items mirror [] [] = Unit {0}
-AllSearched r items mirror [] (g ∷ gs) = ⊥
-AllSearched r items mirror (f ∷ fs) [] = ⊥
-AllSearched r items mirror (f ∷ fs) (g ∷ gs) = Searched r items mirror f g × AllSearched r items mirror fs gs
+-- so much is known of accepted ones
+pub within : (s : Oriented) → Accepted s.reference (held s.pattern) (held s.mirror) → Within s
+within s k =
+    let (order, limits, literals) = searchable s.reference (held s.pattern) (least_offset s.reference) k.ordered k.accepted in
+    record { ordered = order; limits = limits; literals = literals; mirrors = k.mirrors }
 
--- compiled fragments of small ones with literals can be searched for
-each_searched : (r : Reference) (items mirror : List Placed) → mirror ≡ mirrored_placed items → (fs : List Fragment) (gs : List spec.Fragment)
-    → Hold r items fs gs → All (λ g. Small (bodies g.body)) gs → All WithLiteral gs → AllSearched r items mirror fs gs
-each_searched r items mirror m [] [] h small coded = tt
-each_searched r items mirror m [] (g ∷ gs) h small coded = absurd h
-each_searched r items mirror m (f ∷ fs) [] h small coded = absurd h
-each_searched r items mirror m (f ∷ fs) (g ∷ gs) (h, hs) (small, smalls) (y, ys) = (
-  record { holds = h; mirrors = m; small = small; coded = anchor_codes r g.body y },
-  each_searched r items mirror m fs gs hs smalls ys,
-)
+-- what holds of all fragments holds of the one at a place
+all_at : (P : spec.Fragment → Type 0) (gs : List spec.Fragment) (k : ℕ) (g : spec.Fragment) → All P gs → slice_get gs k ≡ Some g → P g
+all_at P [] k g h e = absurd (grind arith)
+all_at P (x ∷ gs) zero g h e = subst P (same e) h.0
+  where
+    same : {y z : spec.Fragment} → Some y ≡ Some z → y ≡ z
+    same e = cc
+all_at P (x ∷ gs) (suc k) g h e = all_at P gs k g h.1 e
 
--- the fragments of a sound sequence can be searched for
-pub all_searched : (r : Reference) (lo : ℕ) (items mirror : List Placed) (fs : List Fragment)
-    → Sound r lo items mirror fs → AllSearched r items mirror fs (fragments lo items)
-all_searched r lo items mirror fs s =
-    let (within, literals) = searchable r items lo s.ordered s.accepted in
-    each_searched r items mirror s.mirrors fs (fragments lo items) s.compiled (fragments_small items lo within) literals
+-- what stands at a place of a list is the first of what stands from there on
+drop_at_some : (gs : List spec.Fragment) (k : ℕ) (g : spec.Fragment) → slice_get gs k ≡ Some g → drop k gs ≡ g ∷ drop (suc k) gs
+drop_at_some [] k g e = absurd (grind arith)
+drop_at_some (x ∷ gs) zero g e = cc
+drop_at_some (x ∷ gs) (suc k) g e = drop_at_some gs k g e
+
+-- and where nothing stands there, nothing stands from there on
+drop_at_none : (gs : List spec.Fragment) (k : ℕ) → slice_get gs k ≡ None → drop k gs ≡ []
+drop_at_none [] zero e = refl
+drop_at_none [] (suc k) e = refl
+drop_at_none (x ∷ gs) zero e = absurd (grind arith)
+drop_at_none (x ∷ gs) (suc k) e = drop_at_none gs k e
+
+module _ (s : Oriented) (at : ℕ → Option Fragment) (holds : HoldsAt s at) where
+  -- the fragment that a compiled one is searched for stands at its number
+  pub part_at : Within s → (k : ℕ) (f : Fragment) → at k ≡ Some f
+      → (g : spec.Fragment) × (drop k (parts s) ≡ g ∷ drop (suc k) (parts s)) × Searches s f g
+  part_at w k f e = go (slice_get (parts s) k) refl (subst (λ o. HoldsIf s.reference (held s.pattern) o (slice_get (parts s) k)) e (holds k))
+    where
+      small : All (λ g. Small (bodies g.body)) (parts s)
+      small = fragments_small (held s.pattern) (least_offset s.reference) w.limits
+
+      go : (o : Option spec.Fragment) → slice_get (parts s) k ≡ o → HoldsIf s.reference (held s.pattern) (Some f) o
+          → (g : spec.Fragment) × (drop k (parts s) ≡ g ∷ drop (suc k) (parts s)) × Searches s f g
+      go None there h = absurd h
+      go (Some g) there h = (
+        g,
+        drop_at_some (parts s) k g there,
+        record {
+          holds = h;
+          mirrors = w.mirrors;
+          small = all_at (λ g. Small (bodies g.body)) (parts s) k g small there;
+          coded = anchor_codes s.reference g.body (all_at WithLiteral (parts s) k g w.literals there);
+        },
+      )
+
+  -- where there is no compiled fragment, there is no fragment from there on
+  pub none_at : (k : ℕ) → at k ≡ None → drop k (parts s) ≡ []
+  none_at k e = go (slice_get (parts s) k) refl (subst (λ o. HoldsIf s.reference (held s.pattern) o (slice_get (parts s) k)) e (holds k))
+    where
+      go : (o : Option spec.Fragment) → slice_get (parts s) k ≡ o → HoldsIf s.reference (held s.pattern) None o → drop k (parts s) ≡ []
+      go None there h = drop_at_none (parts s) k there
+      go (Some g) there h = absurd h
+
+-- within the limits there are at most eight fragments
+few : (fs : List spec.Fragment) (number : ℕ) (o : Option ℕ) → fragment_place number o fs ≡ None → length fs ≤ 8 - number
+few [] number o e = omega arith
+few (f ∷ fs) number o e =
+    let (was, ok) = kept_none _ o (first_place f.body) (fragments_none fs (suc number) _ e) in
+    omega (arith, leb-false 8 number (or_parts (leb 8 number) _ ok).0, few fs (suc number) _ e)
 
 -- fragments of which the first has another break
 abbrev pub opened : ℕ → List spec.Fragment → List spec.Fragment
@@ -168,29 +210,39 @@ cut_some (q ∷ qs) break body row e =
           ]
     ]
 
+-- as many fragments, whatever the first break
+length_opened : (from : ℕ) (gs : List spec.Fragment) → length (opened from gs) ≡ length gs
+length_opened from [] = refl
+length_opened from (g ∷ gs) = refl
+
+-- there is no ninth
+pub few_parts : (s : Oriented) → Within s → (number : ℕ) → 8 ≤ number → drop number (parts s) ≡ []
+few_parts s w number past =
+    let qs = held s.pattern in
+    let same : length (parts s) ≡ length (fragments 0 qs) = sym (ap length (opened_cut qs (least_offset s.reference) 0 [] [])) ∙ length_opened (least_offset s.reference) (fragments 0 qs) in
+    drop_all number (parts s) (omega (arith, few (fragments 0 qs) 0 _ w.limits))
+
 -- What the search answers.
 
--- what the search for the fragments of items, in the order of the search, finds in a reading
-abbrev pub finds : Reference → ℕ → ℕ → List Placed → List ℕ → Bool
-finds Front lo hi items xs = found (fragments lo items) 0 (Some hi) xs
-finds Back lo hi items xs = found (fragments lo items) 0 (Some hi) (reverse xs)
-finds Anywhere lo hi items xs = found (fragments 0 items) 0 None xs
+-- the least end in the reading in the order of the search decides as the rule does: from the front,
+pub front_decides : (s : Oriented) (least most : ℕ) (xs : List ℕ) → s.reference ≡ Front least most
+    → is_some (least_end (bodies (held s.pattern)) least (Some most) xs) ≡ hits s.reference (bodies (said s).items) xs
+front_decides s least most xs e =
+    front_hits least most (bodies (held s.pattern)) xs ∙ ap (λ r. hits r (bodies (oriented r (held s.pattern))) xs) (sym e)
 
--- for a sequence it is what the rule says
-finds_hit : (s : Sequence) (xs : List ℕ) → finds s.offsets.reference s.offsets.lo s.offsets.hi (held s.pattern) xs ≡ hits s.offsets.reference s.offsets.lo s.offsets.hi (bodies (said s)) xs
-finds_hit s xs = ∥∥₁_elim s.sound (Bool-set _ _) (exact s.offsets.reference)
-  where
-    exact : (r : Reference) → Sound r s.offsets.lo (held s.pattern) (held s.mirror) (vec_items s.fragments) → finds r s.offsets.lo s.offsets.hi (held s.pattern) xs ≡ hits r s.offsets.lo s.offsets.hi (bodies (oriented r (held s.pattern))) xs
-    exact Front k = (found_exactly (held s.pattern) s.offsets.lo s.offsets.hi xs k.ordered (accepted_parts (held s.pattern) k.accepted).0).0
-    exact Back k =
-        let text = mirrored_placed (held s.pattern) in
-        ap (λ l. found (fragments s.offsets.lo l) 0 (Some s.offsets.hi) (reverse xs)) (sym (mirrored_placed_twice (held s.pattern)))
-        ∙ found_from_back text s.offsets.lo s.offsets.hi xs k.ordered (accepted_parts text k.accepted).0
-    exact Anywhere k = (found_exactly (held s.pattern) 0 0 xs k.ordered (accepted_parts (held s.pattern) k.accepted).0).1
+-- from the back,
+pub back_decides : (s : Oriented) (least most : ℕ) (xs : List ℕ) → s.reference ≡ Back least most
+    → is_some (least_end (bodies (held s.pattern)) least (Some most) (reverse xs)) ≡ hits s.reference (bodies (said s).items) xs
+back_decides s least most xs e =
+    let text = mirrored_placed (held s.pattern) in
+    let items : bodies (held s.pattern) ≡ mirrored (bodies text) = ap bodies (sym (mirrored_placed_twice (held s.pattern))) ∙ bodies_mirrored text in
+    front_hits least most (bodies (held s.pattern)) (reverse xs)
+    ∙ ap (λ is. hits (Front least most) is (reverse xs)) items
+    ∙ mirrored_alike (Back least most) (bodies text) xs
+    ∙ ap (λ r. hits r (bodies (oriented r (held s.pattern))) xs) (sym e)
 
--- so an answer that says what the search finds is what the rule says, which is true exactly when a placement exists
-pub answered : (s : Sequence) (xs : List ℕ) (b : Bool) → b ≡ finds s.offsets.reference s.offsets.lo s.offsets.hi (held s.pattern) xs
-    → (b ≡ hits s.offsets.reference s.offsets.lo s.offsets.hi (bodies (said s)) xs) × Decides b (Placement s.offsets.reference s.offsets.lo s.offsets.hi (bodies (said s)) xs)
-answered s xs b e =
-    let is = e ∙ finds_hit s xs in
-    (is, subst (λ d. Decides d (Placement s.offsets.reference s.offsets.lo s.offsets.hi (bodies (said s)) xs)) (sym is) (hits_exactly s.offsets.reference s.offsets.lo s.offsets.hi (bodies (said s)) xs))
+-- and anywhere
+pub anywhere_decides : (s : Oriented) (xs : List ℕ) → s.reference ≡ Anywhere
+    → is_some (least_end (bodies (held s.pattern)) 0 None xs) ≡ hits s.reference (bodies (said s).items) xs
+anywhere_decides s xs e =
+    anywhere_hits (bodies (held s.pattern)) xs ∙ ap (λ r. hits r (bodies (oriented r (held s.pattern))) xs) (sym e)

@@ -33,8 +33,8 @@ pub record LiteralRun (is : List Item) (start len : ℕ) : Type 0 where
 
 -- whether a run of literals is taken for the anchor in place of one before it, by their lengths
 abbrev pub replaces : Reference → ℕ → ℕ → Bool
-replaces Front old new = nat_lt 0 new && nat_le old new
-replaces Back old new = nat_lt 0 new && nat_lt old new
+replaces (Front least most) old new = nat_lt 0 new && nat_le old new
+replaces (Back least most) old new = nat_lt 0 new && nat_lt old new
 replaces Anywhere old new = nat_lt 0 new && nat_le old new
 
 -- A run of literals is the anchor of items.

@@ -14,6 +14,7 @@ pub mod Reaching
 pub mod Reading
 pub mod Scanning
 pub mod Refusals
+pub mod Said
 pub mod Searched
 pub mod Sequences
 pub mod Smaller

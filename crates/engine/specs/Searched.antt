@@ -1,13 +1,21 @@
--- What the search of a compiled sequence relies on, and what it answers.
-use Rattle.std.specs.Prelude.{◌≡◌, ℕ, ◌<◌, List, length, None}
+-- What the search of a compiled sequence relies on.
+use Rattle.std.specs.Prelude.{◌≡◌, ℕ, ◌<◌, List, length, Some, None, Option, ⊤}
+use Rattle.std.specs.List.{slice_get}
 use Rattle.patterns.specs.Fragments as spec
-use Rattle.patterns.specs.Fragments.{anchor, bodies, fragments, mirrored_placed, oriented}
+use Rattle.patterns.specs.Fragments.{anchor, bodies, mirrored_placed, oriented}
 use Rattle.patterns.specs.Grammar.{Placed, Ordered, start}
-use Rattle.patterns.specs.declared.reference.Reference.{Reference}
 use Rattle.patterns.specs.Spans.{Small}
-use Rattle.engine.specs.Compiled.{Holds, Hold}
+use Rattle.patterns.specs.declared.reference.Reference.{Reference}
+use Rattle.engine.specs.Compiled.{Holds}
 use Rattle.engine.specs.Limits.{refusal}
 use Rattle.engine.specs.declared.fragment.Fragment.{Fragment}
+
+-- Items in the order of the search that the compiler can have made: in the order of the text they are a text's and not refused,
+-- and the mirrored items are theirs.
+pub record Accepted (r : Reference) (items mirror : List Placed) : Type 0 where
+  pub ordered : Ordered start (oriented r items)
+  pub accepted : refusal (oriented r items) ≡ None
+  pub mirrors : mirror ≡ mirrored_placed items
 
 -- A compiled fragment that can be searched for: it holds a fragment of the items, there are the mirrored items to look back
 -- from its anchor, it spans no more than a row, and its anchor has a code.
@@ -17,10 +25,13 @@ pub record Searched (r : Reference) (items mirror : List Placed) (f : Fragment) 
   pub small : Small (bodies g.body)
   pub coded : 0 < length (anchor r (bodies g.body)).codes
 
--- A sequence that the compiler can have made: the items, in the order of the text, are a text's and not refused; the
--- mirrored items are theirs, and the fragments hold their fragments.
-pub record Sound (r : Reference) (lo : ℕ) (items mirror : List Placed) (fs : List Fragment) : Type 0 where
-  pub ordered : Ordered start (oriented r items)
-  pub accepted : refusal (oriented r items) ≡ None
-  pub mirrors : mirror ≡ mirrored_placed items
-  pub compiled : Hold r items fs (fragments lo items)
+-- a compiled fragment, if there is one, holds a fragment of the items, if there is one
+abbrev pub HoldsIf : Reference → List Placed → Option Fragment → Option spec.Fragment → Type 0
+HoldsIf r items None None = ⊤
+HoldsIf r items None (Some g) = ⊥
+HoldsIf r items (Some f) None = ⊥
+HoldsIf r items (Some f) (Some g) = Holds r items f g
+
+-- the compiled fragments, by their numbers from 0 on, hold the fragments of the items
+abbrev pub HoldsEach : Reference → List Placed → (ℕ → Option Fragment) → List spec.Fragment → Type 0
+HoldsEach r items at gs = (k : ℕ) → HoldsIf r items (at k) (slice_get gs k)

@@ -54,8 +54,8 @@ fn better(reference: Reference, old: Literals, new: Literals) -> Literals
     ensures { result ≡ (if replaces reference old.len new.len then new else old) }
 {
     let replaces = match reference {
-        Reference::Back => old.len < new.len,
-        Reference::Front | Reference::Anywhere => old.len <= new.len,
+        Reference::Back { .. } => old.len < new.len,
+        Reference::Front { .. } | Reference::Anywhere => old.len <= new.len,
     };
     if new.len > 0 && replaces { new } else { old }
 }

@@ -3,7 +3,7 @@ ghost use Rattle.std.specs.Prelude.{◌≡◌, ℕ, ◌+◌, ◌<◌, true, ◌�
 ghost use Rattle.engine.specs.Codes.{codes_of};
 ghost use Rattle.engine.specs.Finding.{Bounds, LeastThrough, Sides};
 ghost use Rattle.engine.specs.Reading.{held};
-ghost use Rattle.engine.specs.Sequences.{Searches};
+ghost use Rattle.engine.specs.Said.{Searches};
 ghost use Rattle.patterns.specs.Spans.{NoLess};
 ghost use Rattle.patterns.specs.Fragments as spec;
 ghost use Rattle.patterns.specs.Fragments.{bodies, Anchor};
@@ -15,7 +15,7 @@ use crate::opening::Opening;
 use crate::pattern::Pattern;
 use crate::reach::reach;
 use crate::scan::next_fit_up_to;
-use crate::sequence::Sequence;
+use crate::oriented::Oriented;
 use crate::smaller::smaller;
 use crate::starts::{Starts, place_behind};
 use kinds::reading::Reading;
@@ -34,7 +34,7 @@ fn is_bounded(pattern: &Pattern, fragment: &Fragment) -> bool
 
 // The least end of a placement whose anchor stands at a place and that starts where it may, or none.
 fn end_through<R: Reading>(
-    sequence: &Sequence,
+    sequence: &Oriented,
     fragment: &Fragment,
     reading: &R,
     place: u32,
@@ -81,7 +81,7 @@ fn last_useful(last: u32, best: Option<u64>, len: usize) -> u32
 // literal that the fragment begins with does not stand near enough before it, the least end through it is taken, up to the last
 // place that can give a smaller one.
 pub(crate) fn least_end<R: Reading>(
-    sequence: &Sequence,
+    sequence: &Oriented,
     fragment: &Fragment,
     reading: &R,
     starts: Starts,

@@ -14,7 +14,7 @@ use crate::token::Gap;
 use patterns::Direction;
 
 // A pattern has at most this many fragments.
-const MOST_FRAGMENTS: usize = 8;
+pub(crate) const MOST_FRAGMENTS: usize = 8;
 
 // A fragment spans at most this many elements.
 pub(crate) const LONGEST_SPAN: usize = 1024;

@@ -1,29 +1,48 @@
-// Searches readings for sequences.
-ghost use Rattle.std.specs.Prelude.{◌≡◌, Decides};
-ghost use Rattle.std.specs.Option.{is_some};
+//! Searches readings for compiled sequences.
+ghost use Rattle.std.specs.Prelude.{◌≡◌, ℕ, List, Option, Some, None};
+ghost use Rattle.std.specs.Option.{is_some, option_copied};
 ghost use Rattle.engine.specs.Codes.{codes_of};
 ghost use Rattle.engine.specs.Reading.{held};
-ghost use Rattle.engine.specs.Sequences.{said};
-ghost use Rattle.patterns.specs.Fragments.{bodies, fragments};
-ghost use Rattle.patterns.specs.Patterns.{hits as hits_by_rule, Placement};
-ghost use Rattle.patterns.specs.Search.{found};
+ghost use Rattle.engine.specs.Said.{said, HoldsAt};
+ghost use Rattle.engine.specs.declared.fragment.Fragment.{Fragment as Compiled};
+ghost use Rattle.patterns.specs.Fragments.{bodies};
+ghost use Rattle.patterns.specs.Patterns.{hits as hits_by_rule};
+ghost use Rattle.patterns.specs.Search.{least_end as least_end_of};
 
 use crate::find::least_end;
+use crate::fragment::Fragment;
 use crate::lent::Lent;
-use crate::sequence::Sequence;
+use crate::limits::MOST_FRAGMENTS;
+use crate::oriented::Oriented;
 use crate::starts::Starts;
 use kinds::backward::Backward;
-use patterns::Reference;
 use kinds::reading::Reading;
+use patterns::Reference;
 
-// Where the last fragment of a sequence ends, if its fragments are found in a reading one behind the other: the first starting
-// where it may, whatever its break, and each other behind its break.
-fn last_end<R: Reading>(sequence: &Sequence, reading: &R, starts: Starts) -> Option<u64>
-    ensures { is_some result ≡ found (fragments starts.from (held sequence.now.pattern)) 0 starts.until (codes_of R.Element.alphabet (R.elements reading.now)) }
+/// The compiled fragments of a sequence by their numbers, wherever they stand. Numbers count from 0.
+pub(crate) trait Fragments {
+    ghost at: { Self → ℕ → Option Compiled };
+
+    /// The fragment with a number, if there is one.
+    fn get(&self, number: usize) -> Option<&Fragment>
+        ensures { option_copied result ≡ at self.now number };
+}
+
+// The least end of a placement of a sequence's items that starts where it may: the fragments are looked for one behind the other,
+// the first starting where it may, whatever its break, and each other behind its break.
+fn last_end<F: Fragments, R: Reading>(
+    sequence: &Oriented,
+    fragments: &F,
+    reading: &R,
+    starts: Starts,
+) -> Option<u64>
+    ensures { HoldsAt sequence.now (F.at fragments.now) → result ≡ least_end_of (bodies (held sequence.now.pattern)) starts.from starts.until (codes_of R.Element.alphabet (R.elements reading.now)) }
 {
-    let (first, others) = sequence.fragments.as_slice().split_first()?;
-    let mut end = least_end(sequence, first, reading, starts)?;
-    for fragment in others {
+    let mut end = least_end(sequence, fragments.get(0)?, reading, starts)?;
+    for number in 1..MOST_FRAGMENTS {
+        let Some(fragment) = fragments.get(number) else {
+            return Some(end);
+        };
         let from = end.checked_add(fragment.gap)?;
         let starts = Starts { from, until: None };
         end = least_end(sequence, fragment, reading, starts)?;
@@ -31,27 +50,22 @@ fn last_end<R: Reading>(sequence: &Sequence, reading: &R, starts: Starts) -> Opt
     Some(end)
 }
 
-// Whether a sequence hits a reading: the decision of the rule, which is true exactly when a placement exists.
-pub fn hits<R: Reading>(sequence: &Sequence, reading: &R) -> bool
-    ensures decision { result ≡ hits_by_rule sequence.now.offsets.reference sequence.now.offsets.lo sequence.now.offsets.hi (bodies (said sequence.now)) (codes_of R.Element.alphabet (R.elements reading.now)) }
-    ensures placement { Decides result (Placement sequence.now.offsets.reference sequence.now.offsets.lo sequence.now.offsets.hi (bodies (said sequence.now)) (codes_of R.Element.alphabet (R.elements reading.now))) }
+// Whether a sequence hits a reading: the decision of the rule.
+pub(crate) fn found<F: Fragments, R: Reading>(
+    sequence: &Oriented,
+    fragments: &F,
+    reading: &R,
+) -> bool
+    ensures { HoldsAt sequence.now (F.at fragments.now) → result ≡ hits_by_rule sequence.now.reference (bodies (said sequence.now).items) (codes_of R.Element.alphabet (R.elements reading.now)) }
 {
-    let starts = Starts {
-        from: u64::from(sequence.offsets.lo),
-        until: Some(u64::from(sequence.offsets.hi)),
-    };
-    match sequence.offsets.reference {
-        Reference::Front => last_end(sequence, reading, starts).is_some(),
-        Reference::Back => {
+    match sequence.reference {
+        Reference::Front { least, most } => {
+            last_end(sequence, fragments, reading, Starts::between(least, most)).is_some()
+        }
+        Reference::Back { least, most } => {
             let backward = Backward::new(Lent { reading });
-            last_end(sequence, &backward, starts).is_some()
+            last_end(sequence, fragments, &backward, Starts::between(least, most)).is_some()
         }
-        Reference::Anywhere => {
-            let starts = Starts {
-                from: 0,
-                until: None,
-            };
-            last_end(sequence, reading, starts).is_some()
-        }
+        Reference::Anywhere => last_end(sequence, fragments, reading, Starts::ANYWHERE).is_some(),
     }
 }

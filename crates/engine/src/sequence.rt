@@ -1,18 +1,105 @@
-// Sequences: pattern texts, compiled for their search.
-ghost use Rattle.engine.specs.Reading.{held};
-ghost use Rattle.engine.specs.Searched.{Sound};
+//! Sequences: pattern texts, compiled for their search.
+ghost use Rattle.std.specs.Prelude.{◌≡◌, ◌↔◌, IsTrue, length};
+ghost use Rattle.engine.specs.Codes.{codes_of};
+ghost use Rattle.patterns.specs.Fragments.{bodies};
+ghost use Rattle.patterns.specs.Patterns.{hits as hits_by_rule, Placement};
 
+use crate::compile::fragments_of;
+use crate::fault::Failure;
 use crate::fragment::Fragment;
-use crate::pattern::Pattern;
+use crate::oriented::Oriented;
+use crate::search::{Fragments, found};
+use kinds::kind::Kind;
+use kinds::reading::Reading;
 use patterns::Reference;
+use std::alloc::Global;
+use std::marker::{Model, PhantomData};
 
-// The pattern stands in the order of the search: mirrored for a sequence from the back.
+/// A compiled sequence over elements of a kind: a pattern text that is not refused, and where it is looked for.
 #[derive(Drop)]
-pub struct Sequence {
-    pub(crate) offsets: Offsets,
-    pub(crate) pattern: Pattern,
-    // The pattern mirrored, to look back from an anchor.
-    pub(crate) mirror: Pattern,
-    pub(crate) fragments: Vec<Fragment>,
-    ghost sound: { ∥ Sound offsets.reference offsets.lo (held pattern) (held mirror) fragments.items ∥₁ },
+pub struct Sequence<K> {
+    oriented: Oriented,
+    fragments: Vec<Fragment>,
+    kind: PhantomData<K>,
+}
+
+impl<K> Model for Sequence<K> {
+    ghost use Rattle.engine.specs.Said.{Said, said, HoldsOwn};
+
+    ghost Value = { Said };
+
+    ghost view = { λ s. said s.oriented };
+
+    ghost invariant = { λ s. HoldsOwn s.oriented s.fragments.items };
+}
+
+// The fragments of a sequence on its own.
+#[derive(Drop)]
+struct Own<'f> {
+    fragments: &'f [Fragment],
+}
+
+impl Fragments for Own<'_> {
+    ghost use Rattle.std.specs.List.{slice_get};
+
+    ghost at = { λ s k. slice_get s.fragments.now k };
+
+    fn get(&self, number: usize) -> Option<&Fragment> {
+        self.fragments.get(number)
+    }
+}
+
+impl<K: Kind> Sequence<K> {
+    ghost use Rattle.engine.specs.Sequences.{Compiled, parts_said, shown};
+
+    /// Compiles a pattern text for its search, or refuses it. The number of the sequence goes into the refusal alone.
+    pub fn compile(
+        heap: Global,
+        number: u8,
+        reference: Reference,
+        text: &[u8],
+    ) -> Result<Sequence<K>, Failure>
+        ensures { Compiled K.alphabet text.now number reference result }
+    {
+        let oriented = Oriented::of_text::<K>(heap, number, reference, text)?;
+        let least = reference.least_offset();
+        let fragments = fragments_of(heap, &oriented.pattern, reference, least)?;
+        Ok(Sequence {
+            oriented,
+            fragments,
+            kind: PhantomData,
+        })
+    }
+
+    /// How many fragments the sequence has.
+    pub fn fragment_count(&self) -> usize
+        ensures { result ≡ length (parts_said self.now) }
+    {
+        self.fragments.len()
+    }
+
+    /// The numbers of a fragment: break, lead, length of the anchor, and the shift of an index; none where there is no such
+    /// fragment. Fragments are numbered from 1, from the front, or from the back for a sequence from the back.
+    pub fn numbers(&self, fragment: usize, index: u8) -> Option<(u64, u64, usize, u32)>
+        ensures { result ≡ shown self.now fragment index }
+    {
+        let fragment = self.fragments.get(fragment.checked_sub(1)?)?;
+        Some((
+            fragment.gap,
+            fragment.lead,
+            fragment.codes.len(),
+            fragment.shifts[usize::from(index)],
+        ))
+    }
+
+    /// Whether the sequence hits a reading: the decision of the rule, which is true exactly when a placement exists.
+    pub fn hits<R: Reading<Element = K>>(&self, reading: &R) -> bool
+        ensures decision { result ≡ hits_by_rule self.now.reference (bodies self.now.items) (codes_of K.alphabet (R.elements reading.now)) }
+        ensures placement { IsTrue result ↔ Placement self.now.reference (bodies self.now.items) (codes_of K.alphabet (R.elements reading.now)) }
+    {
+        let fragments = Own {
+            fragments: self.fragments.as_slice(),
+        };
+        found(&self.oriented, &fragments, reading)
+    }
 }

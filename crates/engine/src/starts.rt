@@ -1,5 +1,5 @@
 // Where a placement may start.
-ghost use Rattle.std.specs.Prelude.{◌≡◌, ℕ, ◌+◌, ◌<◌, ◌≤◌, Decides, MatchOption};
+ghost use Rattle.std.specs.Prelude.{◌≡◌, ℕ, ◌+◌, ◌<◌, ◌≤◌, Decides, MatchOption, Some};
 ghost use Rattle.engine.specs.Finding.{Start};
 ghost use Rattle.patterns.specs.Patterns.{AtMost};
 
@@ -14,6 +14,23 @@ pub(crate) struct Starts {
 }
 
 impl Starts {
+    // Any place.
+    pub(crate) const ANYWHERE: Starts = Starts {
+        from: 0,
+        until: None,
+    };
+
+    // The places from one to another, both included.
+    pub(crate) fn between(least: u16, most: u16) -> Starts
+        ensures from { result.from ≡ least }
+        ensures until { result.until ≡ Some most }
+    {
+        Starts {
+            from: u64::from(least),
+            until: Some(u64::from(most)),
+        }
+    }
+
     // The first place where the anchor of a placement can stand, `lead` elements behind its start, if a reading can have it.
     pub(crate) fn first_place(self, lead: u64) -> Option<u32>
         ensures { MatchOption result (4294967295 < self.from + lead) (λ place. place ≡ self.from + lead) }

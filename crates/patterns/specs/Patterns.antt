@@ -66,6 +66,12 @@ Allowed (Front least most) before after = (least ≤ before) × (before ≤ most
 Allowed (Back least most) before after = (least ≤ after) × (after ≤ most)
 Allowed Anywhere before after = ⊤
 
+-- the least offset of a reference, 0 where it has none
+abbrev pub least_offset : Reference → ℕ
+least_offset (Front least most) = least
+least_offset (Back least most) = least
+least_offset Anywhere = 0
+
 -- A placement: a stretch of the reading that the items cut, and what stands before and after it.
 pub record Placement (r : Reference) (items : List Item) (xs : List ℕ) : Type 0 where
   pub before : List ℕ

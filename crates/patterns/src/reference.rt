@@ -23,3 +23,18 @@ pub enum Reference {
     /// A placement may stand anywhere.
     Anywhere,
 }
+
+impl Reference {
+    ghost use Rattle.std.specs.Prelude.{◌≡◌};
+    ghost use Rattle.patterns.specs.Patterns.{least_offset};
+
+    /// The least offset, in elements; 0 where the reference has none.
+    pub fn least_offset(self) -> u16
+        ensures { result ≡ least_offset self }
+    {
+        match self {
+            Reference::Front { least, .. } | Reference::Back { least, .. } => least,
+            Reference::Anywhere => 0,
+        }
+    }
+}

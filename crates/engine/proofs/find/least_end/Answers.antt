@@ -65,7 +65,7 @@ loop-fit-preserved g c =
                 rw (w.last-is, w.best-is)
                 (best_next sequence fragment f s starts xs _ codes c.loop-fit.place c.loop-fit.last c.next_fit_up_to.result c.next_fit_up_to.ensures.first
                 c.in-Some.fit c.in-Some.is c.loop-fit.best w.end_through.result w.smaller-best.result c.in_ok-place-2.place w.last_useful-last.result
-                (λ y. w.end_through.ensures (anchor sequence.offsets.reference (bodies f.body)) (sides sequence fragment f s starts xs) y)
+                (λ y. w.end_through.ensures (anchor sequence.reference (bodies f.body)) (sides sequence fragment f s starts xs) y)
                 (w.smaller-best.ensures ∙ smaller_ends c.loop-fit.best w.end_through.result) c.in_ok-place-2.ensures.1 narrow (c.loop-fit.invariant.0 f s))
             | else-not-excludes w ↦
                 rw (w.last-is, w.best-is)

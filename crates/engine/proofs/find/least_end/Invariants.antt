@@ -5,7 +5,7 @@ use Rattle.engine.specs.Codes.{codes_of}
 use Rattle.engine.specs.Finding.{part_of}
 use Rattle.engine.specs.Openings.{Known, OpeningOf}
 use Rattle.engine.specs.Reading.{held}
-use Rattle.engine.specs.Sequences.{Searches}
+use Rattle.engine.specs.Said.{Searches}
 use Rattle.engine.proofs.Least.{Best}
 use Rattle.engine.proofs.find.least_end.Given as goal
 
@@ -13,7 +13,7 @@ use Rattle.engine.proofs.find.least_end.Given as goal
 abbrev pub invariant-loop-fit : goal.invariant-loop-fit
 invariant-loop-fit g l =
     ((f : spec.Fragment) → Searches l.sequence l.fragment f
-    → Best (anchor l.sequence.offsets.reference (bodies f.body)) l.starts (codes_of g.R.Element.Kind.alphabet (g.R.Reading.elements l.reading)) l.place l.last l.best)
+    → Best (anchor l.sequence.reference (bodies f.body)) l.starts (codes_of g.R.Element.Kind.alphabet (g.R.Reading.elements l.reading)) l.place l.last l.best)
     × OpeningOf (part_of (held l.sequence.pattern) l.fragment.first l.fragment.anchor) l.opening
     × Known l.opening (codes_of g.R.Element.Kind.alphabet (g.R.Reading.elements l.reading))
     × (l.opening.next ≤ l.place)

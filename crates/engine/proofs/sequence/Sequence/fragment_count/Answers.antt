@@ -1,0 +1,9 @@
+use Rattle.std.proofs.Common.{length, sym, ap, ◌∙◌}
+use Rattle.engine.specs.Sequences.{parts_said}
+use Rattle.engine.proofs.Shows.{counted}
+use Rattle.engine.proofs.sequence.Sequence.fragment_count.Goals as goal
+
+pub returns : goal.returns
+returns g c =
+    let s = c.self.inside in
+    c.len.ensures ∙ s.fragments.ok.0 ∙ counted s.oriented s.fragments.items c.self.invariant ∙ ap (λ v. length (parts_said v)) c.self.view_is

@@ -1,0 +1,76 @@
+//! A pattern in the order of its search.
+ghost use Rattle.engine.specs.Reading.{held};
+ghost use Rattle.engine.specs.Searched.{Accepted};
+
+use crate::fault::{Failure, Fault};
+use crate::limits::refusal;
+use crate::mirror::mirrored;
+use crate::pattern::Pattern;
+use crate::reader::read;
+use kinds::kind::Kind;
+use patterns::Reference;
+use std::alloc::Global;
+
+/// A pattern in the order of its search: mirrored for a sequence from the back.
+#[derive(Drop)]
+pub(crate) struct Oriented {
+    pub(crate) reference: Reference,
+    pub(crate) pattern: Pattern,
+    // The pattern mirrored, to look back from an anchor.
+    pub(crate) mirror: Pattern,
+    ghost accepted: { ∥ Accepted reference (held pattern) (held mirror) ∥₁ },
+}
+
+impl Pattern {
+    ghost use Rattle.std.specs.Prelude.{◌≡◌};
+    ghost use Rattle.engine.specs.Sequences.{Checked};
+    ghost use Rattle.patterns.specs.Fragments.{oriented};
+
+    // A text's items, or its refusal.
+    fn of_text<K: Kind>(heap: Global, sequence: u8, text: &[u8]) -> Result<Pattern, Failure>
+        ensures { Checked K.alphabet text.now sequence result }
+    {
+        let pattern = read::<K>(heap, sequence, text)?;
+        match refusal(&pattern) {
+            None => Ok(pattern),
+            Some((cause, place)) => Err(Failure::Refused(Fault {
+                cause,
+                sequence,
+                place,
+            })),
+        }
+    }
+
+    // The pattern in the order of its search.
+    fn in_order(self, reference: Reference) -> Pattern
+        ensures { held result ≡ oriented reference (held self) }
+    {
+        match reference {
+            Reference::Front { .. } | Reference::Anywhere => self,
+            Reference::Back { .. } => mirrored(self),
+        }
+    }
+}
+
+impl Oriented {
+    ghost use Rattle.engine.specs.Sequences.{Compiled};
+    ghost use Rattle.engine.specs.Said.{said_if};
+
+    // A text's items in the order of their search, or the text's refusal.
+    pub(crate) fn of_text<K: Kind>(
+        heap: Global,
+        number: u8,
+        reference: Reference,
+        text: &[u8],
+    ) -> Result<Oriented, Failure>
+        ensures { Compiled K.alphabet text.now number reference (said_if result) }
+    {
+        let pattern = Pattern::of_text::<K>(heap, number, text)?.in_order(reference);
+        let mirror = mirrored(pattern.copied(heap)?);
+        Ok(Oriented {
+            reference,
+            pattern,
+            mirror,
+        })
+    }
+}

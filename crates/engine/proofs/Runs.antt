@@ -12,7 +12,7 @@ use Rattle.kinds.specs.declared.pattern.Direction.{Direction}
 use Rattle.kinds.specs.declared.pattern.Direction.TheVariants.{FirstOn, LastOn}
 use Rattle.kinds.proofs.Backs.{same_reversed}
 use Rattle.engine.specs.Stored.{run_codes, run_within}
-use Rattle.engine.specs.declared.run.Run.{Run}
+use Rattle.engine.specs.declared.pattern.Run.{Run}
 
 -- Where runs and parts lie.
 

@@ -1,5 +1,5 @@
 -- The search for fragments, one behind the other.
-use Rattle.std.proofs.Common.{◌≡◌, ℕ, zero, suc, ◌+◌, ◌^◌, ◌<◌, ◌≤◌, true, false, List, [], ◌∷◌, ◌++◌, map, reverse, length, get_or, drop, Some, None, vec_items, Bool, Option, zero-add, sym, refl, ap, ◌∙◌, subst, ⊎_elim, arith}
+use Rattle.std.proofs.Common.{◌≡◌, ℕ, zero, suc, ◌+◌, ◌^◌, ◌<◌, ◌≤◌, true, false, List, [], ◌∷◌, ◌++◌, map, reverse, length, get_or, drop, Some, None, Bool, Option, zero-add, sym, refl, ap, ◌∙◌, subst, ⊎_elim, arith}
 use mathlib.Core.Bool.{Bool-set}
 use mathlib.Core.List.{map-append, reverse-cons}
 use mathlib.Core.Logic.{∥∥₁_elim}
@@ -71,30 +71,30 @@ module _ (s : Sequence) (starts : Starts) (xs : List ℕ) where
   all_found = found (fragments starts.from (held s.pattern)) 0 starts.until xs
 
   -- what follows for a compiled fragment from its being searched for as one of them
-  at_fragment : (i : ℕ) (f : Fragment) → f ≡ get_or (vec_items s.fragments) i f → i < length (vec_items s.fragments) → (b c : Bool)
+  at_fragment : (i : ℕ) (f : Fragment) → f ≡ get_or s.fragments.items i f → i < length s.fragments.items → (b c : Bool)
       → ((g : spec.Fragment) → drop i gs ≡ g ∷ drop (suc i) gs → Searches s f g → b ≡ c) → b ≡ c
   at_fragment i f is inside b c h =
       ∥∥₁_elim s.sound (Bool-set b c) (λ sound.
-      let all = all_searched s.offsets.reference s.offsets.lo (held s.pattern) (held s.mirror) (vec_items s.fragments) sound in
-      let (g, there, k) = searched_at s.offsets.reference (held s.pattern) (held s.mirror) (vec_items s.fragments) gs i f is all inside in
+      let all = all_searched s.offsets.reference s.offsets.lo (held s.pattern) (held s.mirror) s.fragments.items sound in
+      let (g, there, k) = searched_at s.offsets.reference (held s.pattern) (held s.mirror) s.fragments.items gs i f is all inside in
       h g there k)
 
   -- past the last compiled fragment there is none of them
-  past_all : (i : ℕ) → length (vec_items s.fragments) ≤ i → (b c : Bool) → (drop i gs ≡ [] → b ≡ c) → b ≡ c
+  past_all : (i : ℕ) → length s.fragments.items ≤ i → (b c : Bool) → (drop i gs ≡ [] → b ≡ c) → b ≡ c
   past_all i past b c h =
       ∥∥₁_elim s.sound (Bool-set b c) (λ sound.
-      let all = all_searched s.offsets.reference s.offsets.lo (held s.pattern) (held s.mirror) (vec_items s.fragments) sound in
-      h (searched_all s.offsets.reference (held s.pattern) (held s.mirror) (vec_items s.fragments) gs i all past))
+      let all = all_searched s.offsets.reference s.offsets.lo (held s.pattern) (held s.mirror) s.fragments.items sound in
+      h (searched_all s.offsets.reference (held s.pattern) (held s.mirror) s.fragments.items gs i all past))
 
   -- where the first may start changes nothing but its break
   first_opened : (g : spec.Fragment) → drop 0 gs ≡ g ∷ drop 1 gs → all_found ≡ found (record { break = starts.from; body = g.body } ∷ drop 1 gs) 0 starts.until xs
   first_opened g is = ap (λ fs. found fs 0 starts.until xs) (sym (opened_cut (held s.pattern) starts.from s.offsets.lo [] []) ∙ ap (opened starts.from) is)
 
   -- there is a first one
-  pub first_some : length (vec_items s.fragments) ≤ 0 → false ≡ all_found
+  pub first_some : length s.fragments.items ≤ 0 → false ≡ all_found
   first_some none = past_all 0 none false all_found (λ e. absurd (cut_some (held s.pattern) s.offsets.lo [] [] e))
 
-  module _ (first : Fragment) (others : List Fragment) (whole : vec_items s.fragments ≡ first ∷ others) where
+  module _ (first : Fragment) (others : List Fragment) (whole : s.fragments.items ≡ first ∷ others) where
     -- the first is searched for as the first
     at_first : (b c : Bool) → ((g : spec.Fragment) → drop 0 gs ≡ g ∷ drop 1 gs → Searches s first g → b ≡ c) → b ≡ c
     at_first = at_fragment 0 first (sym (ap (λ l. get_or l 0 first) whole)) (omega (arith, ap length whole))

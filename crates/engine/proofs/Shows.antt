@@ -1,5 +1,5 @@
 -- What is shown of a compiled fragment is what its items say.
-use Rattle.std.proofs.Common.{◌≡◌, ℕ, zero, suc, ◌-◌, ◌<◌, List, [], ◌∷◌, length, get_or, Some, None, vec_len, sym, refl, ap, ◌∙◌, arith}
+use Rattle.std.proofs.Common.{◌≡◌, ℕ, zero, suc, ◌-◌, ◌<◌, List, [], ◌∷◌, length, get_or, Some, None, sym, refl, ap, ◌∙◌, arith}
 use Rattle.std.specs.List.{slice_get}
 use Rattle.std.specs.Option.{option_map}
 use Rattle.kinds.specs.Fragments as spec
@@ -39,7 +39,7 @@ module _ (r : Reference) (items : List Placed) where
   shown_none fs gs number index some h e = sym (at_number gs number index some ∙ ap (option_map (numbers r index)) (hold_none fs gs (number - 1) h e))
 
   -- the numbers of a compiled fragment are those that are shown
-  pub shown_some : (fs : List Fragment) (gs : List spec.Fragment) (number index : ℕ) (f : Fragment) → 0 < number → index < 256 → Hold r items fs gs → slice_get fs (number - 1) ≡ Some f → Some (f.gap, f.lead, vec_len f.codes, get_or f.shifts index 0) ≡ shown r gs number index
+  pub shown_some : (fs : List Fragment) (gs : List spec.Fragment) (number index : ℕ) (f : Fragment) → 0 < number → index < 256 → Hold r items fs gs → slice_get fs (number - 1) ≡ Some f → Some (f.gap, f.lead, length f.codes.items, get_or f.shifts index 0) ≡ shown r gs number index
   shown_some fs gs number index f some byte h e =
       let found = hold_at fs gs (number - 1) f h e in
       let same = found.2 in

@@ -1,5 +1,5 @@
 -- What the compiler makes can be searched for, and its search decides as the rule does.
-use Rattle.std.proofs.Common.{◌≡◌, ℕ, Bool, true, false, cond, List, [], ◌∷◌, ◌++◌, reverse, vec_items, Some, None, Ok, Err, Decides, Option, Result, sym, refl, ap, ◌∙◌, subst, inl, inr, arith}
+use Rattle.std.proofs.Common.{◌≡◌, ℕ, Bool, true, false, cond, List, [], ◌∷◌, ◌++◌, reverse, Some, None, Ok, Err, Decides, Option, Result, sym, refl, ap, ◌∙◌, subst, inl, inr, arith}
 use mathlib.Core.Bool.{Bool-set}
 use mathlib.Core.Logic.{∥∥₁_elim}
 use Rattle.std.specs.List.{AllByRecursion as All}
@@ -180,7 +180,7 @@ finds Anywhere lo hi items xs = found (fragments 0 items) 0 None xs
 finds_hit : (s : Sequence) (xs : List ℕ) → finds s.offsets.reference s.offsets.lo s.offsets.hi (held s.pattern) xs ≡ hits s.offsets.reference s.offsets.lo s.offsets.hi (bodies (said s)) xs
 finds_hit s xs = ∥∥₁_elim s.sound (Bool-set _ _) (exact s.offsets.reference)
   where
-    exact : (r : Reference) → Sound r s.offsets.lo (held s.pattern) (held s.mirror) (vec_items s.fragments) → finds r s.offsets.lo s.offsets.hi (held s.pattern) xs ≡ hits r s.offsets.lo s.offsets.hi (bodies (oriented r (held s.pattern))) xs
+    exact : (r : Reference) → Sound r s.offsets.lo (held s.pattern) (held s.mirror) s.fragments.items → finds r s.offsets.lo s.offsets.hi (held s.pattern) xs ≡ hits r s.offsets.lo s.offsets.hi (bodies (oriented r (held s.pattern))) xs
     exact Front k = (found_exactly (held s.pattern) s.offsets.lo s.offsets.hi xs k.ordered (accepted_parts (held s.pattern) k.accepted).0).0
     exact Back k =
         let text = mirrored_placed (held s.pattern) in

@@ -1,5 +1,5 @@
 -- What texts are refused for, and what sequences are compiled to.
-use Rattle.std.specs.Prelude.{◌≡◌, ℕ, zero, suc, Bool, List, length, Some, None, Ok, Err, vec_items, Option, Result, ⊤}
+use Rattle.std.specs.Prelude.{◌≡◌, ℕ, zero, suc, Bool, List, length, Some, None, Ok, Err, Option, Result, ⊤}
 use Rattle.std.specs.List.{slice_get}
 use Rattle.std.specs.Option.{option_map}
 use Rattle.kinds.specs.Alphabet.{Alphabet}
@@ -52,7 +52,7 @@ pub record CompiledFrom {E : Type 0} (a : Alphabet E) (t : List ℕ) (r : Refere
   pub items : List Placed
   pub read : outcome a t ≡ Ok items
   pub pattern : held s.pattern ≡ oriented r items
-  pub fragments : Hold r (held s.pattern) (vec_items s.fragments) (fragments lo (oriented r items))
+  pub fragments : Hold r (held s.pattern) s.fragments.items (fragments lo (oriented r items))
   pub reference : s.offsets.reference ≡ r
   pub offsets : (s.offsets.lo ≡ lo) × (s.offsets.hi ≡ hi)
 

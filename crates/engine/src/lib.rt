@@ -2,8 +2,6 @@
 #![tactic(auto)]
 
 pub mod cause;
-pub mod compile;
-mod contents;
 mod context;
 mod cursor;
 pub mod fault;
@@ -14,18 +12,15 @@ pub mod lexer;
 pub mod limits;
 pub mod mirror;
 mod opening;
-pub mod part;
 pub mod pattern;
 mod reach;
 pub mod reader;
-pub mod run;
 pub mod scan;
 pub mod search;
 pub mod sequence;
 mod smaller;
 mod starts;
 mod step;
-mod store;
 pub mod text;
 pub mod theorems;
 pub mod token;

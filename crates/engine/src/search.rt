@@ -24,7 +24,7 @@ fn last_end<R: Reading>(sequence: &Sequence, reading: &R, starts: Starts) -> Opt
     let (first, others) = sequence.fragments.as_slice().split_first()?;
     let mut end = least_end(sequence, first, reading, starts)?;
     for fragment in others {
-        let from = end.checked_add(fragment.gap)?;
+        let from = end.checked_add(u64::from(fragment.gap))?;
         let starts = Starts { from, until: None };
         end = least_end(sequence, fragment, reading, starts)?;
     }

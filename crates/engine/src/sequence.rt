@@ -3,7 +3,9 @@ ghost use Rattle.engine.specs.Reading.{held};
 ghost use Rattle.engine.specs.Searched.{Sound};
 
 use crate::fragment::Fragment;
+use crate::limits::MOST_FRAGMENTS;
 use crate::pattern::Pattern;
+use arrayvec::ArrayVec;
 use kinds::pattern::Offsets;
 
 // The pattern stands in the order of the search: mirrored for a sequence from the back.
@@ -13,6 +15,6 @@ pub struct Sequence {
     pub(crate) pattern: Pattern,
     // The pattern mirrored, to look back from an anchor.
     pub(crate) mirror: Pattern,
-    pub(crate) fragments: Vec<Fragment>,
+    pub(crate) fragments: ArrayVec<Fragment, MOST_FRAGMENTS>,
     ghost sound: { ∥ Sound offsets.reference offsets.lo (held pattern) (held mirror) fragments.items ∥₁ },
 }

@@ -1,5 +1,5 @@
 -- The anchor of a compiled fragment among the items of its pattern: how long it is, and what stands before and behind it.
-use Rattle.std.proofs.Common.{◌≡◌, ℕ, zero, suc, ◌+◌, ◌-◌, ◌≤◌, List, [], ◌∷◌, ◌++◌, length, take, drop, vec_len, sym, refl, ap, ◌∙◌, ap₂, arith, length-append, length-drop, length-take}
+use Rattle.std.proofs.Common.{◌≡◌, ℕ, zero, suc, ◌+◌, ◌-◌, ◌≤◌, List, [], ◌∷◌, ◌++◌, length, take, drop, sym, refl, ap, ◌∙◌, ap₂, arith, length-append, length-drop, length-take}
 use Rattle.std.proofs.lemmas.List.{append_assoc, take-append-drop, take-take, take_at, drop_at, drop-drop, drop-take, take_all}
 use Rattle.patterns.specs.Fragments as spec
 use Rattle.patterns.specs.Fragments.{Anchor, anchor, bodies, mirrored_placed}
@@ -78,8 +78,8 @@ module _ (r : Reference) (qs mirror : List Placed) (f : Fragment) (g : spec.Frag
   a = anchor r (bodies g.body)
 
   -- it has as many codes as the compiled fragment
-  pub codes_long : vec_len f.codes ≡ length a.codes
-  codes_long = f.codes.ok.0 ∙ ap length s.holds.codes
+  pub codes_long : length f.codes.items ≡ length a.codes
+  codes_long = ap length s.holds.codes
 
   -- a part of the fragment's items is one of the pattern's
   part_is : (from to : ℕ) → f.first ≤ from → from ≤ to → to ≤ f.end → take (to - from) (drop (from - f.first) (bodies g.body)) ≡ part_of qs from to
@@ -99,11 +99,11 @@ module _ (r : Reference) (qs mirror : List Placed) (f : Fragment) (g : spec.Frag
       ∙ part_is f.first f.anchor (omega arith) ordered.0 (omega arith)
 
   -- what stands behind it
-  back_is : a.back ≡ part_of qs (f.anchor + vec_len f.codes) f.end
+  back_is : a.back ≡ part_of qs (f.anchor + length f.codes.items) f.end
   back_is =
       let ordered = s.holds.ordered in
-      let from = f.anchor + vec_len f.codes in
-      let at : f.anchor - f.first + vec_len f.codes ≡ from - f.first = omega arith in
+      let from = f.anchor + length f.codes.items in
+      let at : f.anchor - f.first + length f.codes.items ≡ from - f.first = omega arith in
       let size : length (drop (from - f.first) (bodies g.body)) ≤ f.end - from =
       omega (arith, length-drop (from - f.first) (bodies g.body), bodies_length g.body, ap length s.holds.body, length-take (f.end - f.first) (drop f.first qs)) in
       ap (λ (x : Anchor). x.back) s.holds.anchored

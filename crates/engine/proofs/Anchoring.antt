@@ -8,7 +8,7 @@ use Rattle.patterns.specs.declared.reference.Reference.{Reference}
 use Rattle.patterns.specs.declared.reference.Reference.TheVariants.{Front, Back, Anywhere}
 use Rattle.engine.specs.Compiled.{literal_codes, anchor_at}
 use Rattle.engine.specs.Compiling.{LiteralRun, Anchors, replaces}
-use Rattle.engine.specs.declared.compile.Literals.{Literals}
+use Rattle.engine.specs.declared.fragment.Literals.{Literals}
 use Rattle.engine.proofs.Bodies.{stretch_more}
 
 -- the codes of items with a literal more

@@ -1,8 +1,8 @@
 -- Compiled fragments, one by one and together.
-use Rattle.std.proofs.Common.{◌≡◌, ℕ, ◌+◌, ◌-◌, ◌<◌, ◌≤◌, List, [], ◌∷◌, ◌++◌, length, take, drop, Some, None, vec_items, vec_len, Option, sym, refl, ap, ◌∙◌, subst, arith, length-drop, length-take}
+use Rattle.std.proofs.Common.{◌≡◌, ℕ, ◌+◌, ◌-◌, ◌<◌, ◌≤◌, List, [], ◌∷◌, ◌++◌, length, take, drop, Some, None, Option, sym, refl, ap, ◌∙◌, subst, arith, length-drop, length-take}
 use lib.ListN.{length-map}
 use Rattle.std.proofs.lemmas.List.{append_assoc, drop-drop, take-map, drop-map, take_rest}
-use Rattle.std.specs.Global.{Vec}
+use Rattle.arrayvec.specs.ArrayVec.{ArrayVec}
 use Rattle.patterns.specs.Fragments as spec
 use Rattle.patterns.specs.Fragments.{Anchor, anchor, bodies, cut_from, sum_least, lead, shift}
 use Rattle.patterns.specs.Grammar.{Placed}
@@ -12,11 +12,11 @@ use Rattle.engine.specs.Compiled.{literal_codes, anchor_at, Holds, Hold}
 use Rattle.engine.specs.Compiling.{part_codes, part_items, Anchors, Shifts, Cuts}
 use Rattle.engine.specs.Reading.{held}
 use Rattle.engine.specs.Stored.{items, placed_of}
-use Rattle.engine.specs.declared.compile.Cut.{Cut}
+use Rattle.engine.specs.declared.fragment.Cut.{Cut}
 use Rattle.engine.specs.declared.fragment.Fragment.{Fragment}
-use Rattle.engine.specs.declared.part.PlacedPart.{PlacedPart}
+use Rattle.engine.specs.declared.pattern.PlacedPart.{PlacedPart}
 use Rattle.engine.specs.declared.pattern.Pattern.{Pattern}
-use Rattle.engine.specs.declared.run.Run.{Run}
+use Rattle.engine.specs.declared.pattern.Run.{Run}
 use Rattle.engine.proofs.Bodies.{part_codes_are, part_items_length, part_items_take, part_items_drop}
 
 module _ (codes : List ℕ) (runs : List Run) (ps : List PlacedPart) where
@@ -60,10 +60,10 @@ module _ (codes : List ℕ) (runs : List Run) (ps : List PlacedPart) where
     anchor_within = let h = found.literals.inside in let long = body_length in omega arith
 
     -- a fragment that is put together from its numbers
-    pub assembled : (gap n : ℕ) (stored : Vec ℕ) (table : List ℕ)
+    pub assembled : (gap n : ℕ) (stored : ArrayVec ℕ) (table : List ℕ)
         → n ≡ sum_least (part_items codes runs (take start body))
-        → vec_items stored ≡ part_codes (take (start + len - start) (drop start body))
-        → Shifts table (vec_items stored)
+        → stored.items ≡ part_codes (take (start + len - start) (drop start body))
+        → Shifts table stored.items
         → Holds r (items codes runs ps) (record { first = first; end = end; anchor = first + start; codes = stored; gap = gap; lead = n; shifts = table }) (g gap)
     assembled gap n stored table n_is stored_is table_is =
         let moved : first + start - first ≡ start = omega arith in
@@ -74,8 +74,8 @@ module _ (codes : List ℕ) (runs : List Run) (ps : List PlacedPart) where
         let fits = found.literals.inside in
         let literals : part_items codes runs (take (start + len - start) (drop start body)) ≡ take len (drop start is) =
         part_items_take codes runs (start + len - start) (drop start body) ∙ ap (take (start + len - start)) (part_items_drop codes runs start body) ∙ ap (λ k. take k (drop start is)) whole in
-        let kept : vec_items stored ≡ literal_codes (take len (drop start is)) = stored_is ∙ part_codes_are codes runs (take (start + len - start) (drop start body)) ∙ ap literal_codes literals in
-        let many : vec_len stored ≡ len = stored.ok.0 ∙ ap length kept ∙ found.literals.all in
+        let kept : stored.items ≡ literal_codes (take len (drop start is)) = stored_is ∙ part_codes_are codes runs (take (start + len - start) (drop start body)) ∙ ap literal_codes literals in
+        let many : length stored.items ≡ len = ap length kept ∙ found.literals.all in
         record {
           ordered = (omega arith, omega (arith, anchor_within), simp length-map inside);
           body = refl;
@@ -124,15 +124,15 @@ module _ (r : Reference) (qs : List Placed) where
     completes_last cuts = so_far (f ∷ []) (subst (Hold r qs (f ∷ [])) (sym (cuts.1 gap)) (cut_body, tt))
 
 -- a turn of the loop over the fragments: the parts from a place on were cut
-module _ (p : Pattern) (slice : List PlacedPart) (slice_is : slice ≡ vec_items p.parts) (first : ℕ) (inside : first ≤ length slice) (cut : Cut)
+module _ (p : Pattern) (slice : List PlacedPart) (slice_is : slice ≡ p.parts.items) (first : ℕ) (inside : first ≤ length slice) (cut : Cut)
     (cuts_all : (codes : List ℕ) (runs : List Run) → Cuts (items codes runs (take (length slice - first) (drop first slice))) cut.end cut.next) where
   -- the slice is as long as the items
   as_long : length slice ≡ length (held p)
-  as_long = ap length slice_is ∙ sym (length-map (vec_items p.parts) (placed_of (vec_items p.codes) (vec_items p.runs)))
+  as_long = ap length slice_is ∙ sym (length-map p.parts.items (placed_of p.codes.items p.runs.items))
 
   -- the items that are left are cut so
   cuts : Cuts (drop first (held p)) cut.end cut.next
-  cuts = cuts_from (vec_items p.codes) (vec_items p.runs) (vec_items p.parts) first slice slice_is cut.end cut.next (cuts_all (vec_items p.codes) (vec_items p.runs))
+  cuts = cuts_from p.codes.items p.runs.items p.parts.items first slice slice_is cut.end cut.next (cuts_all p.codes.items p.runs.items)
 
   -- the fragment ends within the parts
   pub ends_within : first + cut.end ≤ length slice

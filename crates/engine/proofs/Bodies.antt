@@ -7,10 +7,10 @@ use Rattle.patterns.specs.Patterns.{any}
 use Rattle.engine.specs.Compiled.{literal_codes}
 use Rattle.engine.specs.Compiling.{part_code, part_codes, part_items}
 use Rattle.engine.specs.Stored.{item_of}
-use Rattle.engine.specs.declared.part.Part.{Part}
-use Rattle.engine.specs.declared.part.Part.TheVariants as part
-use Rattle.engine.specs.declared.part.PlacedPart.{PlacedPart}
-use Rattle.engine.specs.declared.run.Run.{Run}
+use Rattle.engine.specs.declared.pattern.Part.{Part}
+use Rattle.engine.specs.declared.pattern.Part.TheVariants as part
+use Rattle.engine.specs.declared.pattern.PlacedPart.{PlacedPart}
+use Rattle.engine.specs.declared.pattern.Run.{Run}
 
 -- the elements from one place to another, and one more
 pub stretch_more : {X : Type 0} (xs : List X) (start i : ℕ) (d : X) → start ≤ i → i < length xs → take (i + 1 - start) (drop start xs) ≡ take (i - start) (drop start xs) ++ get_or xs i d ∷ []

@@ -9,10 +9,10 @@ use Rattle.patterns.specs.Patterns as pattern
 use Rattle.patterns.proofs.Backs.{sum_push}
 use Rattle.engine.specs.Compiling.{Cuts}
 use Rattle.engine.specs.Stored.{item_of}
-use Rattle.engine.specs.declared.part.Part.{Part}
-use Rattle.engine.specs.declared.part.Part.TheVariants as part
-use Rattle.engine.specs.declared.run.Run.{Run}
-use Rattle.engine.specs.declared.token.Gap.{Gap}
+use Rattle.engine.specs.declared.pattern.Part.{Part}
+use Rattle.engine.specs.declared.pattern.Part.TheVariants as part
+use Rattle.engine.specs.declared.pattern.Run.{Run}
+use Rattle.engine.specs.declared.pattern.Gap.{Gap}
 use Rattle.engine.proofs.Bodies.{stretch_more}
 
 -- tests joined in another order

@@ -1,5 +1,5 @@
 -- The least end through one place of an anchor, from the rows of what is reached on both sides of it.
-use Rattle.std.proofs.Common.{◌≡◌, ℕ, ◌+◌, ◌-◌, ◌<◌, ◌≤◌, Bool, true, false, MatchOption, ◌&&◌, ltb, leb, List, reverse, length, take, drop, Some, None, vec_len, Decides, Option, sym, ap, ◌∙◌, subst, ap₂, ⊎_elim, arith}
+use Rattle.std.proofs.Common.{◌≡◌, ℕ, ◌+◌, ◌-◌, ◌<◌, ◌≤◌, Bool, true, false, MatchOption, ◌&&◌, ltb, leb, List, reverse, length, take, drop, Some, None, Decides, Option, sym, ap, ◌∙◌, subst, ap₂, ⊎_elim, arith}
 use Rattle.std.specs.List.{AllByRecursion as All}
 use Rattle.std.proofs.lemmas.Bool.{both_ways, leb-true, le-leb, lt-ltb, and_parts, cases_lt}
 use Rattle.patterns.specs.Fragments.{Anchor}
@@ -133,7 +133,7 @@ module _ (back : List Item) (xs : List ℕ) (b : ℕ) (row : Row) (within : b �
 module _ (qs mirror : List Placed) (f : Fragment) (a : Anchor) (sides : Sides qs mirror f a) (xs : List ℕ) (p : ℕ)
     (stands : stands_at a.codes xs p ≡ true) (starts : Starts) where
   -- the anchor lies in the list
-  pub anchor_inside : p + vec_len f.codes ≤ length xs
+  pub anchor_inside : p + length f.codes.items ≤ length xs
   anchor_inside = omega (arith, ((stands_decides a.codes xs p).0 stands).0, sides.len)
 
   -- so does its place
@@ -150,12 +150,12 @@ module _ (qs mirror : List Placed) (f : Fragment) (a : Anchor) (sides : Sides qs
   before row m n d e = subst (λ is. Reached is (reverse (take p xs)) row) (ap₂ (part_of mirror) d e ∙ sides.before)
 
   -- a row of the items from behind the anchor on is one of what stands there
-  behind : (row : Row) (b : ℕ) → b ≡ p + vec_len f.codes
-      → Reached (part_of qs (f.anchor + vec_len f.codes) f.end) (drop b xs) row → Reached a.back (drop (p + length a.codes) xs) row
+  behind : (row : Row) (b : ℕ) → b ≡ p + length f.codes.items
+      → Reached (part_of qs (f.anchor + length f.codes.items) f.end) (drop b xs) row → Reached a.back (drop (p + length a.codes) xs) row
   behind row b d h =
       let there : b ≡ p + length a.codes = d ∙ ap (λ n. p + n) sides.len in
       subst (λ is. Reached is (drop (p + length a.codes) xs) row) sides.behind
-      (subst (λ n. Reached (part_of qs (f.anchor + vec_len f.codes) f.end) (drop n xs) row) there h)
+      (subst (λ n. Reached (part_of qs (f.anchor + length f.codes.items) f.end) (drop n xs) row) there h)
 
   -- what stands before the anchor is short
   front_short : sum_span a.front < 1024
@@ -172,9 +172,9 @@ module _ (qs mirror : List Placed) (f : Fragment) (a : Anchor) (sides : Sides qs
       λ end h. none (ends_start a.front xs p starts row place_inside (before row m n d e reached) sides.small.front_bounded front_short h.before)
 
   -- where there is one, the first member of the row behind the anchor gives the least end
-  pub through_first : (left right : Row) (m n b : ℕ) → m ≡ length mirror - f.anchor → n ≡ length mirror - f.first → b ≡ p + vec_len f.codes
+  pub through_first : (left right : Row) (m n b : ℕ) → m ≡ length mirror - f.anchor → n ≡ length mirror - f.first → b ≡ p + length f.codes.items
       → Reached (part_of mirror m n) (reverse (take p xs)) left → Start left p starts
-      → Reached (part_of qs (f.anchor + vec_len f.codes) f.end) (drop b xs) right
+      → Reached (part_of qs (f.anchor + length f.codes.items) f.end) (drop b xs) right
       → (first end : Option ℕ) → MatchOption first (NoneFrom right 0) (FirstFrom right 0) → MatchOption first (end ≡ None) (λ k. end ≡ Some (b + k)) → LeastThrough a starts xs p end
   through_first left right m n b d e d' reached start reached' None end none is =
       subst (LeastThrough a starts xs p) (sym is)

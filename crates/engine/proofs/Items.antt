@@ -1,20 +1,21 @@
 -- How the items of a text come together while it is read, token by token.
-use Rattle.std.proofs.Common.{◌≡◌, ℕ, false, List, [], ◌∷◌, ◌++◌, drop, Some, Ok, Err, vec_items, is_ok, MatchResult, Option, Result, sym, refl, ap, ◌∙◌, subst, ⊎_elim, append_assoc, arith}
+use Rattle.std.proofs.Common.{◌≡◌, ℕ, false, List, [], ◌∷◌, ◌++◌, drop, Some, Ok, Err, is_ok, MatchResult, Option, Result, sym, refl, ap, ◌∙◌, subst, ⊎_elim, append_assoc, arith}
 use Rattle.std.proofs.lemmas.Bool.{cases_Bool, both_ways}
 use Rattle.kinds.specs.Alphabet.{Alphabet, Lawful, alphanumeric}
 use Rattle.patterns.specs.Grammar.{Placed, behind}
 use Rattle.patterns.specs.Reader.{State, between, asked, half, alternatives, bracket, low, high, digits, endless, leads, with_code, next, in_front, follow, items_of}
 use Rattle.patterns.proofs.Texts.{leads_alphanumeric}
-use Rattle.engine.specs.Contexts.{nameless, expects_in, context_behind, state_of, state_in, step_of, ContextWithin, StepsTo, PartPushed}
+use Rattle.engine.specs.Contexts.{nameless, expects_in, context_behind, state_of, state_in, step_of, ContextWithin, StepsTo}
+use Rattle.engine.specs.Parts.{PartPushed}
 use Rattle.engine.specs.Reading.{held}
 use Rattle.engine.specs.Stored.{item_of}
 use Rattle.engine.specs.Tokens.{expected, character, with_token, continued, ReadsToken, Lexed}
 use Rattle.engine.specs.declared.context.Context.{Context}
 use Rattle.engine.specs.declared.context.Context.TheVariants as context
-use Rattle.engine.specs.declared.part.Part.{Part}
-use Rattle.engine.specs.declared.part.Part.TheVariants as part
+use Rattle.engine.specs.declared.pattern.Part.{Part}
+use Rattle.engine.specs.declared.pattern.Part.TheVariants as part
 use Rattle.engine.specs.declared.pattern.Pattern.{Pattern}
-use Rattle.engine.specs.declared.run.Run.{Run}
+use Rattle.engine.specs.declared.pattern.Run.{Run}
 use Rattle.engine.specs.declared.step.Step.{Step}
 use Rattle.engine.specs.declared.step.Step.TheVariants.{Stuck, Within, Complete}
 use Rattle.engine.specs.declared.token.Expects.{Expects}
@@ -113,13 +114,13 @@ module _ {E : Type 0} (a : Alphabet E) where
       -- behind a token, by what it did
       module _ (law : Lawful a) (tok : Token) (later : ℕ) (read : ReadsToken a t (expects_in c) place tok later) (after : Pattern) (s : Step) (to : StepsTo p after (with_token nameless (state_in p c) tok) s) where
         -- the rest goes on from what the token did
-        stepped : (s' : Step) → s ≡ s' → items_of a t ≡ prepended (held p) (continued a (step_of (vec_items after.codes) (vec_items after.runs) s') from place later (drop later t))
+        stepped : (s' : Step) → s ≡ s' → items_of a t ≡ prepended (held p) (continued a (step_of after.codes.items after.runs.items s') from place later (drop later t))
         stepped s' is =
-            let expects = expected_in (vec_items p.codes) (vec_items p.runs) c in
+            let expects = expected_in p.codes.items p.runs.items c in
             so_far
             ∙ ap (prepended (held p)) (read.reads (state_in p c) from expects)
             ∙ ap (λ n. prepended (held p) (continued a n from place later (drop later t)))
-            (same_token law (state_in p c) (expects_in c) tok expects ∙ sym to.does ∙ ap (step_of (vec_items after.codes) (vec_items after.runs)) is)
+            (same_token law (state_in p c) (expects_in c) tok expects ∙ sym to.does ∙ ap (step_of after.codes.items after.runs.items) is)
 
         -- a token that cannot stand is where the text is refused
         pub stuck_there : s ≡ Stuck → items_of a t ≡ Err place
@@ -132,8 +133,8 @@ module _ {E : Type 0} (a : Alphabet E) where
         -- the item is complete, and stored
         pub completes : (i : Part) → s ≡ Complete i → (last : Pattern) → PartPushed after (record { place = from; part = i }) last → SoFar t last (context_behind i) later later
         completes i is last pushed =
-            let codes = vec_items after.codes in
-            let runs = vec_items after.runs in
+            let codes = after.codes.items in
+            let runs = after.runs.items in
             let q : Placed = record { place = from; item = item_of codes runs i } in
             let rest : State → Result (List Placed) ℕ = λ s. follow a s later later (drop later t) in
             let next = between (behind (item_of codes runs i)) in
@@ -143,7 +144,7 @@ module _ {E : Type 0} (a : Alphabet E) where
             ∙ ap (λ qs. prepended qs (rest next)) (sym pushed.items)
             ∙ ap (λ s. prepended (held last) (rest s)) (behind_in codes runs i)
             ∙ ap (λ cs. prepended (held last) (rest (state_of cs runs (context_behind i)))) (sym pushed.codes)
-            ∙ ap (λ rs. prepended (held last) (rest (state_of (vec_items last.codes) rs (context_behind i)))) (sym pushed.runs)
+            ∙ ap (λ rs. prepended (held last) (rest (state_of last.codes.items rs (context_behind i)))) (sym pushed.runs)
 
   -- what the lexer answers about an equal text where the same is expected
   module _ {t t' : List ℕ} (same : t' ≡ t) {e e' : Expects} (is : e' ≡ e) (place later : ℕ) where

@@ -1,5 +1,5 @@
 -- The least end of a fragment's placement, from one place where its anchor stands to the next.
-use Rattle.std.proofs.Common.{◌≡◌, ℕ, ◌+◌, ◌<◌, ◌≤◌, min, true, leb, ◌⊎◌, inl, refl, List, length, Some, None, vec_items, vec_len, Option, sym, ap, ◌∙◌, subst, ⊎_elim, arith}
+use Rattle.std.proofs.Common.{◌≡◌, ℕ, ◌+◌, ◌<◌, ◌≤◌, min, true, leb, ◌⊎◌, inl, refl, List, length, Some, None, Option, sym, ap, ◌∙◌, subst, ⊎_elim, arith}
 use Rattle.std.proofs.lemmas.Bool.{cases_lt, cond_both, leb-false}
 use Rattle.patterns.specs.Fragments as spec
 use Rattle.patterns.specs.Fragments.{Anchor, anchor, bodies}
@@ -115,7 +115,7 @@ module _ (sequence : Oriented) (f : Fragment) (g : spec.Fragment) (s : Searches 
       best_all a.front a.codes a.back starts.from starts.until xs (bodies g.body) (anchor_splits sequence.reference (bodies g.body)) (starts.from + f.lead) None
       (λ q l y. omega (arith, ((stands_decides a.codes xs q).0 y).0)) (best_none a.front a.codes a.back starts.from starts.until xs (starts.from + f.lead) (omega (arith, s.holds.leads)))
 
-  module _ (codes : List ℕ) (stored : codes ≡ vec_items f.codes) (place last : ℕ) (fit : Option ℕ) (found : ShiftsOf f.shifts codes → fit ≡ not_past last (first_fit codes xs place)) where
+  module _ (codes : List ℕ) (stored : codes ≡ f.codes.items) (place last : ℕ) (fit : Option ℕ) (found : ShiftsOf f.shifts codes → fit ≡ not_past last (first_fit codes xs place)) where
     -- the next place of the anchor
     next_place : NextFit a.codes xs place last fit
     next_place =
@@ -144,7 +144,7 @@ module _ (sequence : Oriented) (f : Fragment) (g : spec.Fragment) (s : Searches 
 
       -- with the least end through it, the best so far is that before the place behind it
       pub best_next : (best end new : Option ℕ) (next last' : ℕ) → (stands_at a.codes xs p ≡ true → LeastThrough a starts xs p end)
-          → new ≡ smaller_of best end → next ≡ p + 1 → ((q : ℕ) → last' < q → (last < q) ⊎ NoLess new (q + vec_len f.codes))
+          → new ≡ smaller_of best end → next ≡ p + 1 → ((q : ℕ) → last' < q → (last < q) ⊎ NoLess new (q + length f.codes.items))
           → Best a starts xs place last best → Best a starts xs next last' new
       best_next best end new next last' least is_new is_next narrow h =
           let on = best_on a.front a.codes a.back starts.from starts.until xs place p best first.0 first.2 h.before in
@@ -153,7 +153,7 @@ module _ (sequence : Oriented) (f : Fragment) (g : spec.Fragment) (s : Searches 
             beyond = λ q e past x.
                 ⊎_elim
                 (λ far. rw is_new (no_less_smaller best end e (h.beyond q e far x)))
-                (λ no_less. no_less_more new (q + vec_len f.codes) e (omega (arith, x.behind.ordered, codes_long sequence.reference (held sequence.pattern) (held sequence.mirror) f g s)) no_less)
+                (λ no_less. no_less_more new (q + length f.codes.items) e (omega (arith, x.behind.ordered, codes_long sequence.reference (held sequence.pattern) (held sequence.mirror) f g s)) no_less)
                 (narrow q past);
           }
 

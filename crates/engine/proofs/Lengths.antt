@@ -4,8 +4,8 @@ use Rattle.std.specs.List.{fold, reduce}
 use Rattle.std.proofs.lemmas.Bool.{and_parts, and_from}
 use Rattle.patterns.specs.Fragments.{shortest, longest}
 use Rattle.engine.specs.Stored.{run_codes, run_within, all_runs_within, part_within, all_parts_within}
-use Rattle.engine.specs.declared.part.PlacedPart.{PlacedPart}
-use Rattle.engine.specs.declared.run.Run.{Run}
+use Rattle.engine.specs.declared.pattern.PlacedPart.{PlacedPart}
+use Rattle.engine.specs.declared.pattern.Run.{Run}
 use Rattle.engine.proofs.Runs.{run_length}
 
 -- how long a run says that it is

@@ -9,10 +9,10 @@ use Rattle.patterns.specs.Grammar.{Placed}
 use Rattle.patterns.specs.Patterns.{Item, group, range, other, turned, reversed_runs, mirrored_item}
 use Rattle.engine.specs.Stored.{run_codes, item_of, placed_of, items, run_within, all_runs_within, part_within, all_parts_within}
 use Rattle.engine.specs.Turned.{turned_run, turned_part, turned_placed}
-use Rattle.engine.specs.declared.part.Part.{Part}
-use Rattle.engine.specs.declared.part.Part.TheVariants as part
-use Rattle.engine.specs.declared.part.PlacedPart.{PlacedPart}
-use Rattle.engine.specs.declared.run.Run.{Run}
+use Rattle.engine.specs.declared.pattern.Part.{Part}
+use Rattle.engine.specs.declared.pattern.Part.TheVariants as part
+use Rattle.engine.specs.declared.pattern.PlacedPart.{PlacedPart}
+use Rattle.engine.specs.declared.pattern.Run.{Run}
 use Rattle.engine.proofs.Growth.{runs_within_drop, runs_within_take, parts_within_push}
 use Rattle.engine.proofs.Runs.{run_length}
 

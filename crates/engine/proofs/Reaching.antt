@@ -1,5 +1,5 @@
 -- How rows of offsets follow from rows: one step of an item.
-use Rattle.std.proofs.Common.{◌≡◌, ℕ, zero, suc, ◌+◌, ◌-◌, ◌<◌, ◌≤◌, ◌⊎◌, inl, inr, Bool, true, false, not, ◌&&◌, ◌||◌, eqb, ltb, leb, List, [], ◌∷◌, ◌++◌, length, take, drop, vec_items, Some, None, Decides, MatchOption, Option, sym, refl, ap, ◌∙◌, subst, ⊎_elim, append_assoc, append-nil, arith}
+use Rattle.std.proofs.Common.{◌≡◌, ℕ, zero, suc, ◌+◌, ◌-◌, ◌<◌, ◌≤◌, ◌⊎◌, inl, inr, Bool, true, false, not, ◌&&◌, ◌||◌, eqb, ltb, leb, List, [], ◌∷◌, ◌++◌, length, take, drop, Some, None, Decides, MatchOption, Option, sym, refl, ap, ◌∙◌, subst, ⊎_elim, append_assoc, append-nil, arith}
 use Rattle.std.specs.List.{slice_get}
 use Rattle.std.specs.Option.{option_eq}
 use Rattle.std.proofs.lemmas.Bool.Decides.{nat_tests, same_from_decides}
@@ -18,9 +18,9 @@ use Rattle.engine.specs.Finding.{Reached, part_of}
 use Rattle.engine.specs.Reading.{held}
 use Rattle.engine.specs.Stored.{item_of, items}
 use Rattle.engine.specs.Reaching.{matches_at, Led, Stepped}
-use Rattle.engine.specs.declared.part.PlacedPart.{PlacedPart}
+use Rattle.engine.specs.declared.pattern.PlacedPart.{PlacedPart}
 use Rattle.engine.specs.declared.pattern.Pattern.{Pattern}
-use Rattle.engine.specs.declared.run.Run.{Run}
+use Rattle.engine.specs.declared.pattern.Run.{Run}
 use Rattle.engine.proofs.Assembling.{items_between}
 
 -- a greatest length, where a gap without one goes to the last offset
@@ -334,9 +334,9 @@ bodies_append codes runs [] qs = refl
 bodies_append codes runs (p ∷ ps) qs = ap (λ is. item_of codes runs p.part ∷ is) (bodies_append codes runs ps qs)
 
 -- what parts of a pattern from one place to another reach, as its items
-pub reached_held : (p : Pattern) (from to : ℕ) (slice : List PlacedPart) → slice ≡ vec_items p.parts → (xs : List ℕ) (row : Row)
-    → Reached (bodies (items (vec_items p.codes) (vec_items p.runs) (take (to - from) (drop from slice)))) xs row → Reached (part_of (held p) from to) xs row
+pub reached_held : (p : Pattern) (from to : ℕ) (slice : List PlacedPart) → slice ≡ p.parts.items → (xs : List ℕ) (row : Row)
+    → Reached (bodies (items p.codes.items p.runs.items (take (to - from) (drop from slice)))) xs row → Reached (part_of (held p) from to) xs row
 reached_held p from to slice same xs row =
     subst (λ is. Reached is xs row)
-    (ap (λ l. bodies (items (vec_items p.codes) (vec_items p.runs) (take (to - from) (drop from l)))) same
-    ∙ ap bodies (items_between (vec_items p.codes) (vec_items p.runs) (vec_items p.parts) from (to - from)))
+    (ap (λ l. bodies (items p.codes.items p.runs.items (take (to - from) (drop from l)))) same
+    ∙ ap bodies (items_between p.codes.items p.runs.items p.parts.items from (to - from)))

@@ -12,7 +12,7 @@ use Rattle.patterns.specs.declared.direction.Direction.{Direction}
 use Rattle.patterns.specs.declared.direction.Direction.TheVariants.{FirstOn, LastOn}
 use Rattle.patterns.proofs.Backs.{same_reversed}
 use Rattle.engine.specs.Stored.{run_codes, run_within}
-use Rattle.engine.specs.declared.run.Run.{Run}
+use Rattle.engine.specs.declared.pattern.Run.{Run}
 
 -- Where runs and parts lie.
 

@@ -1,5 +1,5 @@
 -- What is shown of a compiled fragment is what its items say.
-use Rattle.std.proofs.Common.{◌≡◌, ℕ, zero, suc, ◌-◌, ◌<◌, List, [], ◌∷◌, length, get_or, Some, None, vec_len, sym, refl, ap, ◌∙◌, arith}
+use Rattle.std.proofs.Common.{◌≡◌, ℕ, zero, suc, ◌-◌, ◌<◌, List, [], ◌∷◌, length, get_or, Some, None, sym, refl, ap, ◌∙◌, arith}
 use Rattle.std.specs.List.{slice_get}
 use Rattle.std.specs.Option.{option_map}
 use Rattle.patterns.specs.Fragments as spec
@@ -66,11 +66,11 @@ module _ (o : Oriented) (fs : List Fragment) (own : HoldsOwn o fs) where
 
   -- the numbers of a compiled fragment are those that are shown
   pub shown_some : (number index : ℕ) (f : Fragment) → 0 < number → index < 256 → slice_get fs (number - 1) ≡ Some f
-      → Some (f.gap, f.lead, vec_len f.codes, get_or f.shifts index 0) ≡ shown (said o) number index
+      → Some (f.gap, f.lead, length f.codes.items, get_or f.shifts index 0) ≡ shown (said o) number index
   shown_some number index f some byte e =
       let found = hold_at o.reference (held o.pattern) fs (parts o) (number - 1) f own e in
       let same = found.2 in
-      let long = f.codes.ok.0 ∙ ap length same.codes in
+      let long = ap length same.codes in
       (λ i. Some (same.break i, same.leads i, long i, same.shifts index byte i))
       ∙ sym (at_number (said o) number index some
       ∙ ap (λ gs. option_map (numbers o.reference index) (slice_get gs (number - 1))) (parts_same o)

@@ -6,7 +6,7 @@ use Rattle.engine.specs.Contexts.{nameless, state_of, step_of, LiesWithin}
 use Rattle.engine.specs.Stored.{run_codes, run_within, all_runs_within}
 use Rattle.engine.specs.declared.context.Context.{Context}
 use Rattle.engine.specs.declared.context.Context.TheVariants as context
-use Rattle.engine.specs.declared.run.Run.{Run}
+use Rattle.engine.specs.declared.pattern.Run.{Run}
 use Rattle.engine.specs.declared.step.Step.TheVariants.{Within}
 use Rattle.engine.proofs.Growth.{run_within_more, run_codes_more, runs_codes_more, runs_within_drop}
 

@@ -70,7 +70,7 @@ some_append p (x ∷ ps) qs = ap (λ b. p x.item || b) (some_append p ps qs) ∙
 -- A stretch keeps what counts of some items. A span counts up to the greatest that fits.
 pub record Keeps (s : Stretch) (qs : List Placed) : Type 0 where
   pub start : s.start ≡ start_of qs
-  pub spans : min s.span (2 ^ 64 - 1) ≡ min (sum span qs) (2 ^ 64 - 1)
+  pub spans : min s.span (2 ^ 32 - 1) ≡ min (sum span qs) (2 ^ 32 - 1)
   pub literals : s.literal ≡ some is_literal qs
   pub ends : s.endless ≡ some endless qs
 

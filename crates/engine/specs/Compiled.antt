@@ -1,5 +1,5 @@
 -- What a compiled fragment holds, by the items that it was compiled from.
-use Rattle.std.specs.Prelude.{◌≡◌, ℕ, ◌+◌, ◌-◌, ◌<◌, ◌≤◌, List, [], ◌∷◌, length, take, drop, Some, None, slice_index, vec_items, vec_len, ⊤}
+use Rattle.std.specs.Prelude.{◌≡◌, ℕ, ◌+◌, ◌-◌, ◌<◌, ◌≤◌, List, [], ◌∷◌, length, take, drop, Some, None, slice_index, ⊤}
 use Rattle.patterns.specs.Fragments as spec
 use Rattle.patterns.specs.Fragments.{Anchor, anchor, lead, shift, bodies, literal_code}
 use Rattle.patterns.specs.Grammar.{Placed}
@@ -22,11 +22,11 @@ anchor_at items start len = record {
 
 -- A compiled fragment holds the numbers of a fragment of the pattern's items.
 pub record Holds (r : Reference) (items : List Placed) (f : Fragment) (g : spec.Fragment) : Type 0 where
-  pub ordered : (f.first ≤ f.anchor) × (f.anchor + vec_len f.codes ≤ f.end) × (f.end ≤ length items)
+  pub ordered : (f.first ≤ f.anchor) × (f.anchor + length f.codes.items ≤ f.end) × (f.end ≤ length items)
   pub body : take (f.end - f.first) (drop f.first items) ≡ g.body
   pub break : f.gap ≡ g.break
-  pub anchored : anchor r (bodies g.body) ≡ anchor_at (bodies g.body) (f.anchor - f.first) (vec_len f.codes)
-  pub codes : vec_items f.codes ≡ (anchor r (bodies g.body)).codes
+  pub anchored : anchor r (bodies g.body) ≡ anchor_at (bodies g.body) (f.anchor - f.first) (length f.codes.items)
+  pub codes : f.codes.items ≡ (anchor r (bodies g.body)).codes
   pub leads : f.lead ≡ lead (anchor r (bodies g.body))
   pub shifts : (index : ℕ) → index < 256 → slice_index f.shifts index ≡ shift (anchor r (bodies g.body)).codes index
 

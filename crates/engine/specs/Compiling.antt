@@ -8,10 +8,10 @@ use Rattle.patterns.specs.declared.reference.Reference.{Reference}
 use Rattle.patterns.specs.declared.reference.Reference.TheVariants.{Front, Back, Anywhere}
 use Rattle.engine.specs.Compiled.{literal_codes, anchor_at}
 use Rattle.engine.specs.Stored.{items}
-use Rattle.engine.specs.declared.part.Part.{Part}
-use Rattle.engine.specs.declared.part.Part.TheVariants.{Literal}
-use Rattle.engine.specs.declared.part.PlacedPart.{PlacedPart}
-use Rattle.engine.specs.declared.run.Run.{Run}
+use Rattle.engine.specs.declared.pattern.Part.{Part}
+use Rattle.engine.specs.declared.pattern.Part.TheVariants.{Literal}
+use Rattle.engine.specs.declared.pattern.PlacedPart.{PlacedPart}
+use Rattle.engine.specs.declared.pattern.Run.{Run}
 
 -- the items of parts, without their places
 abbrev pub part_items : List ℕ → List Run → List PlacedPart → List Item

@@ -1,17 +1,16 @@
 -- Where the reader of texts is, by what it has stored, and what one token does there.
-use Rattle.std.specs.Prelude.{◌≡◌, ℕ, ◌≤◌, Bool, true, false, List, [], ◌∷◌, ◌++◌, map, length, drop, None, vec_items, ⊤}
+use Rattle.std.specs.Prelude.{◌≡◌, ℕ, ◌≤◌, Bool, true, false, List, map, length, drop, None, ⊤}
 use Rattle.kinds.specs.Alphabet.{Alphabet}
 use Rattle.patterns.specs.Grammar.{start, after_thing, after_gap}
 use Rattle.patterns.specs.Reader.{State, between, alternatives, bracket, low, high, Next, stuck, goes_on, complete}
 use Rattle.engine.specs.Reading.{held}
-use Rattle.engine.specs.Stored.{run_codes, run_within, item_of, placed_of, part_within}
+use Rattle.engine.specs.Stored.{run_codes, run_within, item_of, part_within}
 use Rattle.engine.specs.declared.context.Context.{Context}
 use Rattle.engine.specs.declared.context.Context.TheVariants as context
-use Rattle.engine.specs.declared.part.Part.{Part}
-use Rattle.engine.specs.declared.part.Part.TheVariants as part
-use Rattle.engine.specs.declared.part.PlacedPart.{PlacedPart}
+use Rattle.engine.specs.declared.pattern.Part.{Part}
+use Rattle.engine.specs.declared.pattern.Part.TheVariants as part
 use Rattle.engine.specs.declared.pattern.Pattern.{Pattern}
-use Rattle.engine.specs.declared.run.Run.{Run}
+use Rattle.engine.specs.declared.pattern.Run.{Run}
 use Rattle.engine.specs.declared.step.Step.{Step}
 use Rattle.engine.specs.declared.step.Step.TheVariants as step
 use Rattle.engine.specs.declared.token.Expects.{Expects}
@@ -80,11 +79,11 @@ StepLiesWithin codes runs (step.Complete p) = part_within codes runs p ≡ true
 
 -- the state that a context stands for, over the codes and runs of a pattern
 abbrev pub state_in : Pattern → Context → State
-state_in p c = state_of (vec_items p.codes) (vec_items p.runs) c
+state_in p c = state_of p.codes.items p.runs.items c
 
 -- a context lies within the codes and runs of a pattern
 abbrev pub ContextWithin : Pattern → Context → Type 0
-ContextWithin p c = LiesWithin (vec_items p.codes) (vec_items p.runs) c
+ContextWithin p c = LiesWithin p.codes.items p.runs.items c
 
 -- the kind in which no pair names an element: with it the definition says what a token does, which is the same for every kind
 abbrev pub nameless : Alphabet ⊤
@@ -92,24 +91,6 @@ nameless = record { code = λ _. 0; named = λ _ _. None; signature_record = 0; 
 
 -- a step keeps the items of a pattern, is what comes next, and lies within the pattern
 pub record StepsTo (before after : Pattern) (n : Next) (s : Step) : Type 0 where
-  pub does : step_of (vec_items after.codes) (vec_items after.runs) s ≡ n
+  pub does : step_of after.codes.items after.runs.items s ≡ n
   pub items : held after ≡ held before
-  pub within : StepLiesWithin (vec_items after.codes) (vec_items after.runs) s
-
--- one code more, and the same runs and items
-pub record CodePushed (before : Pattern) (code : ℕ) (after : Pattern) : Type 0 where
-  pub codes : vec_items after.codes ≡ vec_items before.codes ++ code ∷ []
-  pub runs : vec_items after.runs ≡ vec_items before.runs
-  pub items : held after ≡ held before
-
--- one run more, and the same codes and items
-pub record RunPushed (before : Pattern) (run : Run) (after : Pattern) : Type 0 where
-  pub codes : vec_items after.codes ≡ vec_items before.codes
-  pub runs : vec_items after.runs ≡ vec_items before.runs ++ run ∷ []
-  pub items : held after ≡ held before
-
--- one item more, and the same codes and runs
-pub record PartPushed (before : Pattern) (p : PlacedPart) (after : Pattern) : Type 0 where
-  pub codes : vec_items after.codes ≡ vec_items before.codes
-  pub runs : vec_items after.runs ≡ vec_items before.runs
-  pub items : held after ≡ held before ++ placed_of (vec_items before.codes) (vec_items before.runs) p ∷ []
+  pub within : StepLiesWithin after.codes.items after.runs.items s

@@ -1,5 +1,5 @@
 -- The search for a fragment: what stands before and behind its anchor, and the least end through one place of the anchor.
-use Rattle.std.specs.Prelude.{◌≡◌, ℕ, ◌+◌, ◌-◌, ◌<◌, ◌≤◌, min, true, ◌&&◌, List, length, take, drop, Some, None, Option, nat_lt, vec_len}
+use Rattle.std.specs.Prelude.{◌≡◌, ℕ, ◌+◌, ◌-◌, ◌<◌, ◌≤◌, min, true, ◌&&◌, List, length, take, drop, Some, None, Option, nat_lt}
 use Rattle.patterns.specs.Fragments.{Anchor, bodies}
 use Rattle.patterns.specs.Grammar.{Placed}
 use Rattle.patterns.specs.Patterns.{Item, AtMost, mirrored}
@@ -29,15 +29,15 @@ pub record Start (row : Row) (place : ℕ) (starts : Starts) : Type 0 where
 -- a fragment's bounds among as many items
 pub record Bounds (count : ℕ) (f : Fragment) : Type 0 where
   pub before : f.first ≤ f.anchor
-  pub behind : f.anchor + vec_len f.codes ≤ f.end
+  pub behind : f.anchor + length f.codes.items ≤ f.end
   pub inside : f.end ≤ count
 
 -- a fragment's anchor, what stands before it, which the mirrored items have mirrored, and what stands behind it
 pub record Sides (items mirror : List Placed) (f : Fragment) (a : Anchor) : Type 0 where
   pub before : part_of mirror (length mirror - f.anchor) (length mirror - f.first) ≡ mirrored a.front
-  pub len : vec_len f.codes ≡ length a.codes
-  pub some : 0 < vec_len f.codes
-  pub behind : part_of items (f.anchor + vec_len f.codes) f.end ≡ a.back
+  pub len : length f.codes.items ≡ length a.codes
+  pub some : 0 < length f.codes.items
+  pub behind : part_of items (f.anchor + length f.codes.items) f.end ≡ a.back
   pub small : SmallParts a
 
 -- the least end of a placement whose anchor stands at a place, or none

@@ -1,5 +1,5 @@
 -- What the reader of texts answers.
-use Rattle.std.specs.Prelude.{◌≡◌, ℕ, List, Ok, Err, vec_items, Result, ⊤}
+use Rattle.std.specs.Prelude.{◌≡◌, ℕ, List, Ok, Err, Result, ⊤}
 use Rattle.kinds.specs.Alphabet.{Alphabet}
 use Rattle.patterns.specs.Grammar.{Placed}
 use Rattle.patterns.specs.Reader.{items_of}
@@ -11,7 +11,7 @@ use Rattle.engine.specs.declared.pattern.Pattern.{Pattern}
 
 -- the items that a pattern holds
 abbrev pub held : Pattern → List Placed
-held p = items (vec_items p.codes) (vec_items p.runs) (vec_items p.parts)
+held p = items p.codes.items p.runs.items p.parts.items
 
 -- a text is read as its items, or refused at the place that the definition gives; or memory ran out
 abbrev pub Read : {E : Type 0} → Alphabet E → List ℕ → ℕ → Result Pattern Failure → Type 0

@@ -2,10 +2,10 @@
 use Rattle.std.specs.Prelude.{ℕ, ◌+◌, Bool, true, ◌&&◌, List, [], ◌∷◌, map, length, take, drop, nat_le}
 use Rattle.patterns.specs.Grammar.{Placed}
 use Rattle.patterns.specs.Patterns.{Item, literal, any, group, range, other, gap}
-use Rattle.engine.specs.declared.part.Part.{Part}
-use Rattle.engine.specs.declared.part.Part.TheVariants as part
-use Rattle.engine.specs.declared.part.PlacedPart.{PlacedPart}
-use Rattle.engine.specs.declared.run.Run.{Run}
+use Rattle.engine.specs.declared.pattern.Part.{Part}
+use Rattle.engine.specs.declared.pattern.Part.TheVariants as part
+use Rattle.engine.specs.declared.pattern.PlacedPart.{PlacedPart}
+use Rattle.engine.specs.declared.pattern.Run.{Run}
 
 -- the codes of a run
 abbrev pub run_codes : List ℕ → Run → List ℕ

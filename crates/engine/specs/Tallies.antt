@@ -17,7 +17,7 @@ single q = record { start = Some q.place; span = span q.item; literal = is_liter
 -- items and those that follow them; a span that does not fit is the greatest that does
 abbrev pub joined : Stretch → Stretch → Stretch
 joined a b =
-    record { start = option_or a.start b.start; span = min (a.span + b.span) (2 ^ 64 - 1); literal = a.literal || b.literal; endless = a.endless || b.endless }
+    record { start = option_or a.start b.start; span = min (a.span + b.span) (2 ^ 32 - 1); literal = a.literal || b.literal; endless = a.endless || b.endless }
 
 -- before the first item
 abbrev pub initial : Tally

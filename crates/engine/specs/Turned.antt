@@ -1,10 +1,10 @@
 -- A stored pattern, mirrored: its list of codes is reversed, and its runs and parts follow.
 use Rattle.std.specs.Prelude.{ℕ, ◌-◌}
 use Rattle.patterns.specs.Patterns.{turned}
-use Rattle.engine.specs.declared.part.Part.{Part}
-use Rattle.engine.specs.declared.part.Part.TheVariants as part
-use Rattle.engine.specs.declared.part.PlacedPart.{PlacedPart}
-use Rattle.engine.specs.declared.run.Run.{Run}
+use Rattle.engine.specs.declared.pattern.Part.{Part}
+use Rattle.engine.specs.declared.pattern.Part.TheVariants as part
+use Rattle.engine.specs.declared.pattern.PlacedPart.{PlacedPart}
+use Rattle.engine.specs.declared.pattern.Run.{Run}
 
 -- where a run of n codes stands once the codes are reversed
 abbrev pub turned_run : ℕ → Run → Run

@@ -2,8 +2,7 @@
 ghost use Rattle.std.specs.Prelude.{◌≡◌};
 ghost use Rattle.engine.specs.Contexts.{expects_in, ends_in, context_behind};
 
-use crate::part::Part;
-use crate::run::Run;
+use crate::pattern::{Part, Run};
 use crate::token::Expects;
 
 // What was read of the item that is being read. The codes of its runs are the last of the pattern, the current run's from
@@ -16,21 +15,21 @@ pub enum Context {
     AfterGap,
     // In a group.
     Group {
-        first: usize,
-        start: usize,
+        first: u8,
+        start: u8,
     },
     // An opening bracket was read.
     Bracket,
     // In the first run of a range.
     Low {
         inside: bool,
-        start: usize,
+        start: u8,
     },
     // In the second run of a range.
     High {
         inside: bool,
         low: Run,
-        start: usize,
+        start: u8,
     },
 }
 

@@ -1,5 +1,5 @@
 // Finds the least end of a fragment's placements, from one place where its anchor stands to the next.
-ghost use Rattle.std.specs.Prelude.{◌≡◌, ℕ, ◌+◌, ◌<◌, true, ◌⊎◌, vec_len, Decides};
+ghost use Rattle.std.specs.Prelude.{◌≡◌, ℕ, ◌+◌, ◌<◌, true, ◌⊎◌, Decides, length};
 ghost use Rattle.engine.specs.Codes.{codes_of};
 ghost use Rattle.engine.specs.Finding.{Bounds, LeastThrough, Sides};
 ghost use Rattle.engine.specs.Reading.{held};
@@ -22,12 +22,12 @@ use kinds::reading::Reading;
 
 // Whether a fragment's bounds are in order and lie in a pattern.
 fn is_bounded(pattern: &Pattern, fragment: &Fragment) -> bool
-    ensures { Decides result (Bounds (vec_len pattern.now.parts) fragment.now) }
+    ensures { Decides result (Bounds (length pattern.now.parts.items) fragment.now) }
 {
     fragment.first <= fragment.anchor
         && fragment.anchor <= fragment.end
-        && fragment.codes.len() <= fragment.end - fragment.anchor
-        && fragment.end <= pattern.parts.len()
+        && fragment.codes.len() <= usize::from(fragment.end - fragment.anchor)
+        && usize::from(fragment.end) <= pattern.parts.len()
 }
 
 // No struct holds a sequence, a reading and starts together: the starts are others for each fragment.
@@ -40,18 +40,18 @@ fn end_through<R: Reading>(
     place: u32,
     starts: Starts,
 ) -> Option<u64>
-    requires { Bounds (vec_len sequence.now.pattern.parts) fragment.now }
+    requires { Bounds (length sequence.now.pattern.parts.items) fragment.now }
     ensures { (a : Anchor) → Sides (held sequence.now.pattern) (held sequence.now.mirror) fragment.now a → stands_at a.codes (codes_of R.Element.alphabet (R.elements reading.now)) place ≡ true → LeastThrough a starts (codes_of R.Element.alphabet (R.elements reading.now)) place result }
 {
     let count = sequence.mirror.parts.len();
-    let first = count.saturating_sub(fragment.first);
+    let first = count.saturating_sub(usize::from(fragment.first));
     let back = BackFrom {
         reading,
         start: place,
     };
     let before = reach(
         &sequence.mirror,
-        count.saturating_sub(fragment.anchor),
+        count.saturating_sub(usize::from(fragment.anchor)),
         first,
         &back,
     );
@@ -64,7 +64,8 @@ fn end_through<R: Reading>(
         reading,
         start: base,
     };
-    let behind = reach(&sequence.pattern, fragment.anchor + len, fragment.end, &on);
+    let from = usize::from(fragment.anchor) + len;
+    let behind = reach(&sequence.pattern, from, usize::from(fragment.end), &on);
     behind.first_from(0).map(|far| u64::from(base) + far as u64)
 }
 
@@ -92,7 +93,7 @@ pub(crate) fn least_end<R: Reading>(
         return None;
     }
     let codes = fragment.codes.as_slice();
-    let mut place = starts.first_place(fragment.lead)?;
+    let mut place = starts.first_place(u64::from(fragment.lead))?;
     let mut last = starts.last_place();
     let mut best = None;
     let mut opening = Opening::of(&sequence.pattern, fragment);

@@ -2,8 +2,6 @@
 #![tactic(auto)]
 
 pub mod cause;
-pub mod compile;
-mod contents;
 mod context;
 mod cursor;
 pub mod fault;
@@ -15,17 +13,14 @@ pub mod limits;
 pub mod mirror;
 mod opening;
 mod oriented;
-pub mod part;
 pub mod pattern;
 mod reach;
 pub mod reader;
-pub mod run;
 pub mod scan;
 mod search;
 pub mod sequence;
 mod smaller;
 mod starts;
 mod step;
-mod store;
 pub mod theorems;
 pub mod token;

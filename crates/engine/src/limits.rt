@@ -7,24 +7,22 @@ ghost use Rattle.engine.specs.Tallies.{single, joined, initial, closed, with_gap
 ghost use Rattle.patterns.specs.Fragments.{fragments, before, wrong};
 
 use crate::cause::Cause;
-use crate::part::{Part, PlacedPart};
-use crate::pattern::Pattern;
+use crate::pattern::{Gap, Part, Pattern, PlacedPart};
 use crate::smaller::smaller;
-use crate::token::Gap;
 use patterns::Direction;
 
 // A pattern has at most this many fragments.
 pub(crate) const MOST_FRAGMENTS: usize = 8;
 
 // A fragment spans at most this many elements.
-pub(crate) const LONGEST_SPAN: usize = 1024;
+pub(crate) const LONGEST_SPAN: u32 = 1024;
 
 // What is kept of items that follow each other: where they begin, how many elements they span, whether a literal is among
 // them, and whether a gap without upper end is.
 #[derive(Clone, Copy)]
 struct Stretch {
-    start: Option<usize>,
-    span: usize,
+    start: Option<u8>,
+    span: u32,
     literal: bool,
     endless: bool,
 }
@@ -33,11 +31,11 @@ struct Stretch {
 // gaps behind them, the smallest place beyond a limit, and where the first fragment without a literal begins.
 #[derive(Clone, Copy)]
 struct Tally {
-    ended: usize,
+    ended: u8,
     body: Stretch,
     row: Stretch,
-    limit: Option<usize>,
-    bare: Option<usize>,
+    limit: Option<u8>,
+    bare: Option<u8>,
 }
 
 // Whether one run comes before another of its length, compared from the first element on or from the last.
@@ -79,7 +77,7 @@ impl Pattern {
         ensures { result ≡ closed (tallied initial (held self.now)) }
     {
         let mut tally = Tally::INITIAL;
-        for part in &self.parts {
+        for part in self.parts.as_slice() {
             tally = tally.with_item(self, *part);
         }
         tally.close()
@@ -102,7 +100,7 @@ impl Stretch {
     {
         Stretch {
             start: Some(part.place),
-            span: pattern.extent(part.part).span,
+            span: u32::from(pattern.extent(part.part).span),
             literal: matches!(part.part, Part::Literal(_)),
             endless: matches!(part.part, Part::Gap(Gap { most: None, .. })),
         }
@@ -135,11 +133,11 @@ impl Tally {
 
     // The fragment has ended.
     fn close(self) -> Tally
-        requires { self.ended < 2 ^ 64 - 1 }
+        requires { self.ended < 255 }
         ensures { result ≡ closed self }
     {
         let start = self.body.start.unwrap_or(0);
-        let beyond = self.ended >= MOST_FRAGMENTS || self.body.span > LONGEST_SPAN;
+        let beyond = usize::from(self.ended) >= MOST_FRAGMENTS || self.body.span > LONGEST_SPAN;
         Tally {
             ended: self.ended + 1,
             body: Stretch::EMPTY,
@@ -161,7 +159,7 @@ impl Tally {
 
     // One more thing. It begins a fragment where the row of gaps before it has no upper end.
     fn with_thing(self, thing: Stretch) -> Tally
-        requires { self.ended < 2 ^ 64 - 1 }
+        requires { self.ended < 255 }
         ensures { result ≡ with_thing self thing }
     {
         if self.row.endless {
@@ -180,7 +178,7 @@ impl Tally {
 
     // One more item.
     fn with_item(self, pattern: &Pattern, part: PlacedPart) -> Tally
-        requires ended { self.ended < 2 ^ 64 - 1 }
+        requires ended { self.ended < 255 }
         requires inside { HasPart pattern.now part.part }
         ensures { result ≡ with_item self (placed_in pattern.now part) }
     {
@@ -199,19 +197,21 @@ impl Tally {
     }
 }
 
-// Why and where a pattern of the grammar is refused: at the smallest place beyond a limit, else at the first fragment
-// without a literal. None where it is not refused.
-pub fn refusal(pattern: &Pattern) -> Option<(Cause, usize)>
-    ensures { result ≡ refusal (held pattern.now) }
-{
-    let tally = pattern.tally();
-    let bare = tally.bare.map(|place| (Cause::NoLiteral, place));
-    tally.limit.map(|place| (Cause::Limit, place)).or(bare)
-}
+impl Pattern {
+    /// Why and where a pattern of the grammar is refused: at the smallest place beyond a limit, else at the first fragment
+    /// without a literal. None where it is not refused.
+    pub(crate) fn refusal(&self) -> Option<(Cause, u8)>
+        ensures { result ≡ refusal (held self.now) }
+    {
+        let tally = self.tally();
+        let bare = tally.bare.map(|place| (Cause::NoLiteral, place));
+        tally.limit.map(|place| (Cause::Limit, place)).or(bare)
+    }
 
-// How many fragments a pattern has.
-pub fn fragment_count(pattern: &Pattern) -> usize
-    ensures { result ≡ length (fragments 0 (held pattern.now)) }
-{
-    pattern.tally().ended
+    /// How many fragments a pattern has.
+    pub fn fragment_count(&self) -> u8
+        ensures { result ≡ length (fragments 0 (held self.now)) }
+    {
+        self.tally().ended
+    }
 }

@@ -1,13 +1,12 @@
 // Patterns in the order of a search from the back.
-ghost use Rattle.std.specs.Prelude.{◌≡◌, ℕ, map};
+ghost use Rattle.std.specs.Prelude.{◌≡◌, ℕ, map, reverse};
 ghost use Rattle.engine.specs.Reading.{held};
 ghost use Rattle.engine.specs.Turned.{turned_part, turned_placed, turned_run};
 ghost use Rattle.patterns.specs.Fragments.{mirrored_placed};
 ghost use Rattle.patterns.specs.Patterns.{turned};
 
-use crate::part::{Part, PlacedPart};
-use crate::pattern::Pattern;
-use crate::run::Run;
+use crate::pattern::{Part, Pattern, PlacedPart, Run};
+use arrayvec::ArrayVec;
 use patterns::Direction;
 
 // What follows where the codes of a pattern are reversed.
@@ -15,7 +14,7 @@ trait Turn: Copy {
     ghost turned_in: { ℕ → Self → Self };
 
     // What it becomes once the codes, `total` of them, are reversed.
-    fn turned(self, total: usize) -> Self
+    fn turned(self, total: u8) -> Self
         ensures { result ≡ turned_in total self };
 }
 
@@ -23,7 +22,7 @@ trait Turn: Copy {
 impl Turn for Run {
     ghost turned_in = { turned_run };
 
-    fn turned(self, total: usize) -> Run {
+    fn turned(self, total: u8) -> Run {
         Run {
             start: total.saturating_sub(self.start).saturating_sub(self.len),
             len: self.len,
@@ -45,7 +44,7 @@ fn turned_direction(direction: Direction) -> Direction
 impl Turn for Part {
     ghost turned_in = { turned_part };
 
-    fn turned(self, total: usize) -> Part {
+    fn turned(self, total: u8) -> Part {
         match self {
             Part::Range {
                 direction,
@@ -67,7 +66,7 @@ impl Turn for Part {
 impl Turn for PlacedPart {
     ghost turned_in = { turned_placed };
 
-    fn turned(self, total: usize) -> PlacedPart {
+    fn turned(self, total: u8) -> PlacedPart {
         PlacedPart {
             part: self.part.turned(total),
             ..self
@@ -75,28 +74,39 @@ impl Turn for PlacedPart {
     }
 }
 
-// Turns each of a list.
-fn turn_all<T: Turn>(list: &mut Vec<T>, total: usize)
-    ensures { list.new.items ≡ map (T.turned_in total) list.old.items }
+// Each of a list turned.
+fn all_turned<T: Turn + Default, const N: usize>(list: &ArrayVec<T, N>, total: u8) -> ArrayVec<T, N>
+    ensures { result.items ≡ map (T.turned_in total) list.now.items }
 {
-    for x in list.iter_mut() {
-        *x = x.turned(total);
+    let mut turned = ArrayVec::new();
+    for x in list.as_slice() {
+        turned.push(x.turned(total));
     }
+    turned
 }
 
-// The mirrored pattern: items in reverse order, the runs of each reversed and compared from the other end.
-pub fn mirrored(pattern: Pattern) -> Pattern
-    ensures { held result ≡ mirrored_placed (held pattern) }
+// A list from its last element to its first.
+fn reversed<T: Copy + Default, const N: usize>(list: &ArrayVec<T, N>) -> ArrayVec<T, N>
+    ensures { result.items ≡ reverse list.now.items }
 {
-    let Pattern {
-        mut codes,
-        mut runs,
-        mut parts,
-    } = pattern;
-    let total = codes.len();
-    codes.reverse();
-    turn_all(&mut runs, total);
-    parts.reverse();
-    turn_all(&mut parts, total);
-    Pattern { codes, runs, parts }
+    let mut reversed = ArrayVec::new();
+    for x in list.as_slice() {
+        reversed.push(*x);
+    }
+    reversed.reverse();
+    reversed
+}
+
+impl Pattern {
+    /// The mirrored pattern: items in reverse order, the runs of each reversed and compared from the other end.
+    pub(crate) fn mirrored(&self) -> Pattern
+        ensures { held result ≡ mirrored_placed (held self.now) }
+    {
+        let total = self.codes.len() as u8;
+        Pattern {
+            codes: reversed(&self.codes),
+            runs: all_turned(&self.runs, total),
+            parts: all_turned(&reversed(&self.parts), total),
+        }
+    }
 }

@@ -1,6 +1,6 @@
 // The literal that a fragment begins with: where it does not stand near enough before an anchor, no placement goes through that
 // anchor, and nothing else need be looked at there.
-ghost use Rattle.std.specs.Prelude.{◌≡◌, ◌≤◌, min, Decides, MatchOption, vec_len};
+ghost use Rattle.std.specs.Prelude.{◌≡◌, ◌≤◌, min, Decides, MatchOption, length};
 ghost use Rattle.engine.specs.Codes.{codes_of};
 ghost use Rattle.engine.specs.Finding.{part_of, Bounds};
 ghost use Rattle.engine.specs.Openings.{opening_code, Excluded, Known, LastOf, NoneOf, OpeningOf};
@@ -11,13 +11,12 @@ ghost use Rattle.engine.specs.declared.pattern.Pattern.{Pattern};
 
 use crate::fragment::Fragment;
 use crate::limits::LONGEST_SPAN;
-use crate::part::{Part, PlacedPart};
-use crate::pattern::Pattern;
+use crate::pattern::{Part, Pattern, PlacedPart};
 use crate::reach::code_at;
 use kinds::reading::Reading;
 
 // The most elements of a fragment that can stand before its anchor.
-const FARTHEST: usize = LONGEST_SPAN - 1;
+const FARTHEST: usize = LONGEST_SPAN as usize - 1;
 
 // How many elements parts span, up to the most that can stand before an anchor.
 fn far_of(pattern: &Pattern, parts: &[PlacedPart]) -> usize
@@ -27,7 +26,7 @@ fn far_of(pattern: &Pattern, parts: &[PlacedPart]) -> usize
     let mut far: usize = 0;
     for placed in parts {
         far = far
-            .saturating_add(pattern.extent(placed.part).span)
+            .saturating_add(usize::from(pattern.extent(placed.part).span))
             .min(FARTHEST);
     }
     far
@@ -72,12 +71,12 @@ pub(crate) struct Opening {
 impl Opening {
     // That of a fragment, before the first look.
     pub(crate) fn of(pattern: &Pattern, fragment: &Fragment) -> Opening
-        requires { Bounds (vec_len pattern.now.parts) fragment.now }
+        requires { Bounds (length pattern.now.parts.items) fragment.now }
         ensures opening { OpeningOf (part_of (held pattern.now) fragment.now.first fragment.now.anchor) result }
         ensures after { result.after ≡ 0 }
         ensures next { result.next ≡ 0 }
     {
-        let front = &pattern.parts[fragment.first..fragment.anchor];
+        let front = &pattern.parts[usize::from(fragment.first)..usize::from(fragment.anchor)];
         Opening {
             code: first_code(front),
             far: far_of(pattern, front) as u32,

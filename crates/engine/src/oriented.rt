@@ -3,13 +3,10 @@ ghost use Rattle.engine.specs.Reading.{held};
 ghost use Rattle.engine.specs.Searched.{Accepted};
 
 use crate::fault::{Failure, Fault};
-use crate::limits::refusal;
-use crate::mirror::mirrored;
 use crate::pattern::Pattern;
 use crate::reader::read;
 use kinds::kind::Kind;
 use patterns::Reference;
-use std::alloc::Global;
 
 /// A pattern in the order of its search: mirrored for a sequence from the back.
 #[derive(Drop)]
@@ -27,16 +24,16 @@ impl Pattern {
     ghost use Rattle.patterns.specs.Fragments.{oriented};
 
     // A text's items, or its refusal.
-    fn of_text<K: Kind>(heap: Global, sequence: u8, text: &[u8]) -> Result<Pattern, Failure>
+    fn of_text<K: Kind>(sequence: u8, text: &[u8]) -> Result<Pattern, Failure>
         ensures { Checked K.alphabet text.now sequence result }
     {
-        let pattern = read::<K>(heap, sequence, text)?;
-        match refusal(&pattern) {
+        let pattern = read::<K>(sequence, text)?;
+        match pattern.refusal() {
             None => Ok(pattern),
             Some((cause, place)) => Err(Failure::Refused(Fault {
                 cause,
                 sequence,
-                place,
+                place: usize::from(place),
             })),
         }
     }
@@ -47,7 +44,7 @@ impl Pattern {
     {
         match reference {
             Reference::Front { .. } | Reference::Anywhere => self,
-            Reference::Back { .. } => mirrored(self),
+            Reference::Back { .. } => self.mirrored(),
         }
     }
 }
@@ -58,15 +55,14 @@ impl Oriented {
 
     // A text's items in the order of their search, or the text's refusal.
     pub(crate) fn of_text<K: Kind>(
-        heap: Global,
         number: u8,
         reference: Reference,
         text: &[u8],
     ) -> Result<Oriented, Failure>
         ensures { Compiled K.alphabet text.now number reference (said_if result) }
     {
-        let pattern = Pattern::of_text::<K>(heap, number, text)?.in_order(reference);
-        let mirror = mirrored(pattern.copied(heap)?);
+        let pattern = Pattern::of_text::<K>(number, text)?.in_order(reference);
+        let mirror = pattern.mirrored();
         Ok(Oriented {
             reference,
             pattern,

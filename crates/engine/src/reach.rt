@@ -1,5 +1,5 @@
 // How far items reach over a reading, as rows of offsets.
-ghost use Rattle.std.specs.Prelude.{◌≡◌, ◌+◌, ◌≤◌, map, length, vec_len};
+ghost use Rattle.std.specs.Prelude.{◌≡◌, ◌+◌, ◌≤◌, map, length};
 ghost use Rattle.std.specs.Cmp.Lexicographic.{slice_cmp};
 ghost use Rattle.std.specs.List.{slice_get};
 ghost use Rattle.std.specs.Ordering.{nat_cmp};
@@ -12,10 +12,7 @@ ghost use Rattle.patterns.specs.Patterns.{any, compared, gap as spaced, group, l
 ghost use Rattle.patterns.specs.Search.{stretch};
 ghost use Rattle.patterns.specs.declared.direction.Direction.TheVariants.{FirstOn};
 
-use crate::part::Part;
-use crate::pattern::Pattern;
-use crate::run::Run;
-use crate::token::Gap;
+use crate::pattern::{Gap, Part, Pattern, Run};
 use kinds::kind::Kind;
 use patterns::Direction;
 use kinds::reading::Reading;
@@ -206,7 +203,7 @@ fn pass_part<R: Reading>(pattern: &Pattern, part: Part, mut row: Row, reading: &
 #[inline(never)]
 pub(crate) fn reach<R: Reading>(pattern: &Pattern, from: usize, to: usize, reading: &R) -> Row
     requires ordered { from ≤ to }
-    requires inside { to ≤ vec_len pattern.now.parts }
+    requires inside { to ≤ length pattern.now.parts.items }
     ensures { Reached (part_of (held pattern.now) from to) (codes_of R.Element.alphabet (R.elements reading.now)) result }
 {
     let mut row = Row::none().with(0);

@@ -6,11 +6,10 @@ use crate::cause::Cause;
 use crate::context::Context;
 use crate::fault::{Failure, Fault};
 use crate::lexer::Lexer;
-use crate::part::PlacedPart;
-use crate::pattern::Pattern;
+use crate::pattern::{Pattern, PlacedPart};
 use crate::step::{Step, advance};
 use kinds::kind::Kind;
-use std::alloc::Global;
+use std::alloc::AllocError;
 
 // The refusal of a text at a place.
 fn refusal(sequence: u8, place: usize) -> Failure
@@ -24,10 +23,10 @@ fn refusal(sequence: u8, place: usize) -> Failure
 }
 
 // Reads a pattern text into its items. The number of its sequence goes with it for a refusal alone.
-pub fn read<K: Kind>(heap: Global, sequence: u8, text: &[u8]) -> Result<Pattern, Failure>
+pub fn read<K: Kind>(sequence: u8, text: &[u8]) -> Result<Pattern, Failure>
     ensures { Read K.alphabet text.now sequence result }
 {
-    let mut pattern = Pattern::new(heap);
+    let mut pattern = Pattern::new();
     let mut lexer = Lexer::new(text);
     let mut context = Context::Start;
     let mut from = 0;
@@ -47,7 +46,11 @@ pub fn read<K: Kind>(heap: Global, sequence: u8, text: &[u8]) -> Result<Pattern,
             Step::Stuck => return Err(refusal(sequence, place)),
             Step::Within(later) => context = later,
             Step::Complete(part) => {
-                pattern.push_part(PlacedPart { place: from, part })?;
+                let place = u8::try_from(from).map_err(|_| AllocError)?;
+                if pattern.parts.is_full() {
+                    return Err(Failure::Memory);
+                }
+                pattern.push_part(PlacedPart { place, part });
                 context = Context::behind(part);
                 from = lexer.place();
             }

@@ -24,7 +24,7 @@ fn fits<R: Reading>(reading: &R, anchor: &[u16], place: u32) -> bool
 pub fn next_fit_up_to<R: Reading>(
     reading: &R,
     anchor: &[u16],
-    shifts: &[u32; INDICES],
+    shifts: &[u8; INDICES],
     from: u32,
     to: u32,
 ) -> Option<u32>
@@ -44,7 +44,7 @@ pub fn next_fit_up_to<R: Reading>(
         }
         let beyond = reading.at(end as u32)?;
         let shift = shifts[usize::from(beyond.code()) % INDICES];
-        end += shift.max(1) as usize;
+        end += usize::from(shift.max(1));
     }
     None
 }

@@ -43,7 +43,7 @@ fn last_end<F: Fragments, R: Reading>(
         let Some(fragment) = fragments.get(number) else {
             return Some(end);
         };
-        let from = end.checked_add(fragment.gap)?;
+        let from = end.checked_add(u64::from(fragment.gap))?;
         let starts = Starts { from, until: None };
         end = least_end(sequence, fragment, reading, starts)?;
     }

@@ -4,22 +4,22 @@ ghost use Rattle.engine.specs.Codes.{codes_of};
 ghost use Rattle.patterns.specs.Fragments.{bodies};
 ghost use Rattle.patterns.specs.Patterns.{hits as hits_by_rule, Placement};
 
-use crate::compile::fragments_of;
 use crate::fault::Failure;
 use crate::fragment::Fragment;
+use crate::limits::MOST_FRAGMENTS;
 use crate::oriented::Oriented;
 use crate::search::{Fragments, found};
+use arrayvec::ArrayVec;
 use kinds::kind::Kind;
 use kinds::reading::Reading;
 use patterns::Reference;
-use std::alloc::Global;
 use std::marker::{Model, PhantomData};
 
 /// A compiled sequence over elements of a kind: a pattern text that is not refused, and where it is looked for.
 #[derive(Drop)]
 pub struct Sequence<K> {
     oriented: Oriented,
-    fragments: Vec<Fragment>,
+    fragments: ArrayVec<Fragment, MOST_FRAGMENTS>,
     kind: PhantomData<K>,
 }
 
@@ -54,16 +54,15 @@ impl<K: Kind> Sequence<K> {
 
     /// Compiles a pattern text for its search, or refuses it. The number of the sequence goes into the refusal alone.
     pub fn compile(
-        heap: Global,
         number: u8,
         reference: Reference,
         text: &[u8],
     ) -> Result<Sequence<K>, Failure>
         ensures { Compiled K.alphabet text.now number reference result }
     {
-        let oriented = Oriented::of_text::<K>(heap, number, reference, text)?;
+        let oriented = Oriented::of_text::<K>(number, reference, text)?;
         let least = reference.least_offset();
-        let fragments = fragments_of(heap, &oriented.pattern, reference, least)?;
+        let fragments = oriented.pattern.fragments(reference, least);
         Ok(Sequence {
             oriented,
             fragments,
@@ -80,15 +79,16 @@ impl<K: Kind> Sequence<K> {
 
     /// The numbers of a fragment: break, lead, length of the anchor, and the shift of an index; none where there is no such
     /// fragment. Fragments are numbered from 1, from the front, or from the back for a sequence from the back.
-    pub fn numbers(&self, fragment: usize, index: u8) -> Option<(u64, u64, usize, u32)>
+    pub fn numbers(&self, fragment: usize, index: u8) -> Option<(u32, u32, usize, u8)>
         ensures { result ≡ shown self.now fragment index }
     {
-        let fragment = self.fragments.get(fragment.checked_sub(1)?)?;
+        let fragments = self.fragments.as_slice();
+        let fragment = fragments.get(fragment.checked_sub(1)?)?;
         Some((
-            fragment.gap,
-            fragment.lead,
-            fragment.codes.len(),
-            fragment.shifts[usize::from(index)],
+            fragment.gap_before(),
+            fragment.lead(),
+            fragment.anchor_len(),
+            fragment.shift(index),
         ))
     }
 

@@ -43,7 +43,7 @@ impl Starts {
         ensures { (start place : ℕ) → AtMost self.until start → place < start + 1024 → place ≤ 4294967295 → place ≤ result }
     {
         self.until.map_or(u32::MAX, |until| {
-            u32::try_from(until.saturating_add(LONGEST_SPAN as u64)).unwrap_or(u32::MAX)
+            u32::try_from(until.saturating_add(u64::from(LONGEST_SPAN))).unwrap_or(u32::MAX)
         })
     }
 

@@ -1,4 +1,4 @@
-use Rattle.std.proofs.Common.{rules, tests, ◌≡◌, ◌+◌, length, drop, vec_items, vec_len, sym, subst, arith}
+use Rattle.std.proofs.Common.{rules, tests, ◌≡◌, ◌+◌, length, drop, sym, subst, arith}
 use lib.ListN.{length-map}
 use Rattle.engine.specs.Codes.{codes_of}
 use Rattle.engine.specs.Finding.{Reached, Start, part_of}
@@ -18,7 +18,7 @@ returns-then-not-reached g c a sides stands =
     let xs = codes_of alphabet elements in
     let m = c.saturating_sub.result in
     let n = c.saturating_sub-first.result in
-    let size : length (held mirror) ≡ length (vec_items mirror.parts) = length-map (vec_items mirror.parts) (placed_of (vec_items mirror.codes) (vec_items mirror.runs)) in
+    let size : length (held mirror) ≡ length mirror.parts.items = length-map mirror.parts.items (placed_of mirror.codes.items mirror.runs.items) in
     let before = subst (λ ys. Reached (part_of (held mirror) m n) ys c.reach-before.result) (codes_before alphabet elements c.args.place) c.reach-before.ensures in
     through_no_start (held pattern) (held mirror) c.args.fragment.now a sides xs c.args.place stands c.args.starts
     c.reach-before.result m n (omega arith) (omega arith) before
@@ -34,9 +34,9 @@ returns g c a sides stands =
     let xs = codes_of alphabet elements in
     let m = c.saturating_sub.result in
     let n = c.saturating_sub-first.result in
-    let size : length (held mirror) ≡ length (vec_items mirror.parts) = length-map (vec_items mirror.parts) (placed_of (vec_items mirror.codes) (vec_items mirror.runs)) in
+    let size : length (held mirror) ≡ length mirror.parts.items = length-map mirror.parts.items (placed_of mirror.codes.items mirror.runs.items) in
     let before = subst (λ ys. Reached (part_of (held mirror) m n) ys c.reach-before.result) (codes_before alphabet elements c.args.place) c.reach-before.ensures in
-    let behind = subst (λ ys. Reached (part_of (held pattern) (f.anchor + vec_len f.codes) f.end) ys c.reach-behind.result) (codes_behind alphabet elements c.in_ok-base.base) (subst (λ n. Reached (part_of (held pattern) (f.anchor + n) f.end) (codes_of alphabet (drop c.in_ok-base.base elements)) c.reach-behind.result) c.len-len.ensures c.reach-behind.ensures) in
+    let behind = subst (λ ys. Reached (part_of (held pattern) (f.anchor + length f.codes.items) f.end) ys c.reach-behind.result) (codes_behind alphabet elements c.in_ok-base.base) (subst (λ n. Reached (part_of (held pattern) (f.anchor + n) f.end) (codes_of alphabet (drop c.in_ok-base.base elements)) c.reach-behind.result) c.len-len.ensures c.reach-behind.ensures) in
     let end = c.in_ok-base.ensures in
     through_first (held pattern) (held mirror) f a sides xs c.args.place stands c.args.starts
     c.reach-before.result c.reach-behind.result m n c.in_ok-base.base (omega arith) (omega arith) (omega arith)

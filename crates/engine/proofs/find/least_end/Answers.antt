@@ -1,4 +1,4 @@
-use Rattle.std.proofs.Common.{◌≡◌, ℕ, ◌+◌, ◌<◌, ◌⊎◌, length, vec_items, vec_len, sym, ap, ◌∙◌, subst, arith}
+use Rattle.std.proofs.Common.{◌≡◌, ℕ, ◌+◌, ◌<◌, ◌⊎◌, length, sym, ap, ◌∙◌, subst, arith}
 use lib.ListN.{length-map}
 use Rattle.std.proofs.lemmas.Bool.{both_ways}
 use Rattle.patterns.specs.Fragments.{anchor, bodies}
@@ -15,8 +15,8 @@ pub returns-then-not-is_bounded : goal.returns-then-not-is_bounded
 returns-then-not-is_bounded g c f s =
     let pattern = c.args.sequence.now.pattern in
     let xs = codes_of g.R.Element.Kind.alphabet (g.R.Reading.elements c.args.reading.now) in
-    let stored = length-map (vec_items pattern.parts) (placed_of (vec_items pattern.codes) (vec_items pattern.runs)) in
-    let bounds = bounds_of c.args.sequence.now c.args.fragment.now f s c.args.starts xs (vec_len pattern.parts) (omega arith) in
+    let stored = length-map pattern.parts.items (placed_of pattern.codes.items pattern.runs.items) in
+    let bounds = bounds_of c.args.sequence.now c.args.fragment.now f s c.args.starts xs (length pattern.parts.items) (omega arith) in
     absurd (both_ways _ c.if-not-is_bounded.true (c.is_bounded.ensures.1 bounds))
 
 pub returns-in_err-place : goal.returns-in_err-place
@@ -55,7 +55,7 @@ loop-fit-preserved g c =
     let starts = c.args.starts in
     let xs = codes_of g.R.Element.Kind.alphabet (g.R.Reading.elements c.args.reading.now) in
     let codes = c.as_slice-codes.ensures.value in
-    let long : length c.as_slice-codes.result.now ≡ vec_len fragment.codes = ap length codes ∙ sym fragment.codes.ok.0 in
+    let long : length c.as_slice-codes.result.now ≡ length fragment.codes.items = ap length codes ∙ sym fragment.codes.ok.0 in
     let known = c.loop-fit.invariant.1 in
     let on = c.in-Some.ensures.on in (
       λ f s.

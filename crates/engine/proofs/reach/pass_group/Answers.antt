@@ -1,22 +1,22 @@
-use Rattle.std.proofs.Common.{true, map, get_or, take, vec_items, sym, ap, ◌∙◌, subst}
+use Rattle.std.proofs.Common.{true, map, get_or, take, sym, ap, ◌∙◌, subst}
 use Rattle.std.proofs.lemmas.List.{map_more}
 use Rattle.patterns.specs.Patterns.{group, range}
 use Rattle.patterns.specs.declared.direction.Direction.TheVariants.{FirstOn}
 use Rattle.engine.specs.Codes.{codes_of}
 use Rattle.engine.specs.Stored.{run_codes}
 use Rattle.engine.specs.Reaching.{Stepped}
-use Rattle.engine.specs.declared.run.Run.{Run}
+use Rattle.engine.specs.declared.pattern.Run.{Run}
 use Rattle.engine.proofs.Lengths.{run_at_within}
 use Rattle.engine.proofs.Reaching.{group_more}
 use Rattle.engine.proofs.reach.pass_group.Goals as goal
 
 pub run_codes-requires : goal.run_codes-requires
-run_codes-requires g c = run_at_within (vec_items c.args.pattern.now.codes) c.args.runs.now c.loop-run.run-index (record { start = 0; len = 0 }) c.requires c.loop-run-test.true
+run_codes-requires g c = run_at_within c.args.pattern.now.codes.items c.args.runs.now c.loop-run.run-index (record { start = 0; len = 0 }) c.requires c.loop-run-test.true
 
 pub loop-run-preserved : goal.loop-run-preserved
 loop-run-preserved g c =
     let all = codes_of g.R.Element.Kind.alphabet (g.R.Reading.elements c.args.reading.now) in
-    let f = run_codes (vec_items c.args.pattern.now.codes) in
+    let f = run_codes c.args.pattern.now.codes.items in
     let rs = c.args.runs.now in
     let i = c.loop-run.run-index in
     let none : Run = record { start = 0; len = 0 } in

@@ -1,11 +1,11 @@
-use Rattle.std.proofs.Common.{◌≡◌, ◌-◌, true, [], ◌∷◌, get_or, take, drop, vec_items, sym, ap, ◌∙◌, subst}
+use Rattle.std.proofs.Common.{◌≡◌, ◌-◌, true, [], ◌∷◌, get_or, take, drop, sym, ap, ◌∙◌, subst}
 use Rattle.std.proofs.lemmas.List.{take_all, take-append-drop, take_more}
 use Rattle.patterns.specs.Fragments.{bodies}
 use Rattle.engine.specs.Codes.{codes_of}
 use Rattle.engine.specs.Finding.{Reached}
 use Rattle.engine.specs.Stored.{item_of, items, all_parts_within}
-use Rattle.engine.specs.declared.part.Part.TheVariants as part
-use Rattle.engine.specs.declared.part.PlacedPart.{PlacedPart}
+use Rattle.engine.specs.declared.pattern.Part.TheVariants as part
+use Rattle.engine.specs.declared.pattern.PlacedPart.{PlacedPart}
 use Rattle.engine.proofs.Lengths.{part_at_within, parts_drop_within, parts_take_within}
 use Rattle.engine.proofs.Reaching.{row_none, row_more, row_stops, bodies_append, reached_held}
 use Rattle.engine.proofs.reach.reach.Goals as goal
@@ -17,8 +17,8 @@ pub returns-then-is_none : goal.returns-then-is_none
 returns-then-is_none g c =
     let pattern = c.args.pattern.now in
     let all = codes_of g.R.Element.Kind.alphabet (g.R.Reading.elements c.args.reading.now) in
-    let codes = vec_items pattern.codes in
-    let runs = vec_items pattern.runs in
+    let codes = pattern.codes.items in
+    let runs = pattern.runs.items in
     let slice = c.as_slice.result.now in
     let ps = take (c.args.to - c.args.from) (drop c.args.from slice) in
     let i = c.loop-placed.placed-index in
@@ -29,21 +29,21 @@ returns-then-is_none g c =
 pub pass_part-row-requires : goal.pass_part-row-requires
 pass_part-row-requires g c =
     let pattern = c.args.pattern.now in
-    let codes = vec_items pattern.codes in
-    let runs = vec_items pattern.runs in
+    let codes = pattern.codes.items in
+    let runs = pattern.runs.items in
     let from = c.args.from in
     let n = c.args.to - from in
     part_at_within codes runs (take n (drop from c.as_slice.result.now)) c.loop-placed.placed-index (record { place = 0; part = part.Literal 0 })
     (subst (λ l. all_parts_within codes runs (take n (drop from l)) ≡ true) (sym c.as_slice.ensures.value)
-    (parts_take_within codes runs n (drop from (vec_items pattern.parts)) (parts_drop_within codes runs from (vec_items pattern.parts) pattern.parts_within)))
+    (parts_take_within codes runs n (drop from pattern.parts.items) (parts_drop_within codes runs from pattern.parts.items pattern.parts_within)))
     c.loop-placed-test.true
 
 pub loop-placed-preserved : goal.loop-placed-preserved
 loop-placed-preserved g c =
     let pattern = c.args.pattern.now in
     let all = codes_of g.R.Element.Kind.alphabet (g.R.Reading.elements c.args.reading.now) in
-    let codes = vec_items pattern.codes in
-    let runs = vec_items pattern.runs in
+    let codes = pattern.codes.items in
+    let runs = pattern.runs.items in
     let ps = take (c.args.to - c.args.from) (drop c.args.from c.as_slice.result.now) in
     let i = c.loop-placed.placed-index in
     let d : PlacedPart = record { place = 0; part = part.Literal 0 } in
@@ -57,4 +57,4 @@ returns-after-loop-placed g c =
     let slice = c.as_slice.result.now in
     let ps = take (c.args.to - c.args.from) (drop c.args.from slice) in
     reached_held pattern c.args.from c.args.to slice c.as_slice.ensures.value all c.loop-placed.row
-    (subst (λ l. Reached (bodies (items (vec_items pattern.codes) (vec_items pattern.runs) l)) all c.loop-placed.row) (take_all c.loop-placed.placed-index ps c.loop-placed-test.false) c.loop-placed.invariant)
+    (subst (λ l. Reached (bodies (items pattern.codes.items pattern.runs.items l)) all c.loop-placed.row) (take_all c.loop-placed.placed-index ps c.loop-placed-test.false) c.loop-placed.invariant)

@@ -1,4 +1,4 @@
-use Rattle.std.proofs.Common.{take, vec_items}
+use Rattle.std.proofs.Common.{take}
 use Rattle.patterns.specs.Fragments.{bodies}
 use Rattle.engine.specs.Codes.{codes_of}
 use Rattle.engine.specs.Finding.{Reached}
@@ -8,4 +8,4 @@ use Rattle.engine.proofs.reach.reach.Given as goal
 -- the parts so far have been gone through
 abbrev pub invariant-loop-placed : goal.invariant-loop-placed
 invariant-loop-placed g l =
-    Reached (bodies (items (vec_items l.pattern.codes) (vec_items l.pattern.runs) (take l.placed-index l.placed-items))) (codes_of g.R.Element.Kind.alphabet (g.R.Reading.elements l.reading)) l.row
+    Reached (bodies (items l.pattern.codes.items l.pattern.runs.items (take l.placed-index l.placed-items))) (codes_of g.R.Element.Kind.alphabet (g.R.Reading.elements l.reading)) l.row

@@ -1,4 +1,4 @@
-use Rattle.std.proofs.Common.{Err, vec_items, sym, refl, ap, ◌∙◌, subst}
+use Rattle.std.proofs.Common.{Err, sym, refl, ap, ◌∙◌, subst}
 use Rattle.engine.specs.Contexts.{context_behind, expects_in, ContextWithin, StepLiesWithin}
 use Rattle.engine.specs.Reading.{Read}
 use Rattle.engine.specs.Tokens.{ReadsToken, Lexed}
@@ -35,7 +35,7 @@ loop-pattern-preserved-in-Within g c =
     let to = c.in_ok-advance.ensures in
     let token = read g (goal.at.loop-pattern-preserved-in-Within g c).In-Some in (
       c.next.ensures.same_text ∙ l.invariant.0,
-      subst (StepLiesWithin (vec_items after.codes) (vec_items after.runs)) c.in-Within.is to.within,
+      subst (StepLiesWithin after.codes.items after.runs.items) c.in-Within.is to.within,
       goes_within a t l.pattern l.context l.from l.lexer.at.place l.invariant.2 g.met.K.Kind.lawful c.in-Some.token later token after c.in_ok-advance.field-0 to c.in-Within.later c.in-Within.is,
     )
 

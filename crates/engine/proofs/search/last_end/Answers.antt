@@ -1,4 +1,4 @@
-use Rattle.std.proofs.Common.{◌≡◌, ◌^◌, ◌<◌, length, None, sym, ap, ◌∙◌, arith}
+use Rattle.std.proofs.Common.{◌≡◌, ◌+◌, ◌^◌, ◌<◌, length, None, sym, ap, ◌∙◌, subst, arith}
 use Rattle.std.specs.Option.{option_copied}
 use Rattle.std.proofs.lemmas.List.{length-map}
 use Rattle.patterns.specs.Fragments.{bodies}
@@ -40,12 +40,12 @@ returns-in_err-from g c holds =
     let few : length xs < 2 ^ 64 = omega (arith, g.R.Reading.bounded c.args.reading.now) in
     c.from_residual-in_err-from.ensures
     ∙ come_past c.args.sequence.now (g.F.Fragments.at c.args.fragments.now) c.args.starts xs holds c.loop-number.number c.loop-number.end (c.loop-number.invariant holds)
-    c.in-Some.fragment.now (sym c.get-in-loop-number.ensures ∙ ap option_copied c.in-Some.is) c.in_err-from.ensures few
+    c.in-Some.fragment.now (sym c.get-in-loop-number.ensures ∙ ap option_copied c.in-Some.is) (subst (λ n. c.loop-number.end + n < 2 ^ 64 → ⊥) c.from.ensures c.in_err-from.ensures) few
 
 pub returns-in_err-end-2 : goal.returns-in_err-end-2
 returns-in_err-end-2 g c holds =
     let xs = codes_of g.R.Element.Kind.alphabet (g.R.Reading.elements c.args.reading.now) in
-    let from = c.in_ok-from.ensures.1 in
+    let from = c.in_ok-from.ensures.1 ∙ ap (λ n. c.loop-number.end + n) c.from.ensures in
     c.from_residual-in_err-end-2.ensures
     ∙ come_none c.args.sequence.now (g.F.Fragments.at c.args.fragments.now) c.args.starts xs holds c.loop-number.number c.loop-number.end (c.loop-number.invariant holds)
     c.in-Some.fragment.now (sym c.get-in-loop-number.ensures ∙ ap option_copied c.in-Some.is)
@@ -54,7 +54,7 @@ returns-in_err-end-2 g c holds =
 pub loop-number-preserved : goal.loop-number-preserved
 loop-number-preserved g c holds =
     let xs = codes_of g.R.Element.Kind.alphabet (g.R.Reading.elements c.args.reading.now) in
-    let from = c.in_ok-from.ensures.1 in
+    let from = c.in_ok-from.ensures.1 ∙ ap (λ n. c.loop-number.end + n) c.from.ensures in
     come_next c.args.sequence.now (g.F.Fragments.at c.args.fragments.now) c.args.starts xs holds c.loop-number.number c.loop-number.end (c.loop-number.invariant holds)
     c.in-Some.fragment.now (sym c.get-in-loop-number.ensures ∙ ap option_copied c.in-Some.is) c.in_ok-end-2.end
     (λ g' k. sym c.in_ok-end-2.was ∙ c.least_end-in-loop-number.ensures g' k ∙ ap (λ n. least_end (bodies g'.body) n None xs) from)

@@ -1,4 +1,3 @@
-use Rattle.std.proofs.Common.{vec_items}
 use Rattle.engine.proofs.Steps.{run_literal, stays_within}
 use Rattle.engine.proofs.step.literal.Goals as goal
 
@@ -8,7 +7,7 @@ returns-in_ok-push_code-in-Group c =
     let after = c.push_code-in-Group.new.self in
     let pushed = c.in_ok-push_code-in-Group.ensures in
     record {
-      does = run_literal (vec_items before.codes) (vec_items before.runs) c.args.code before.runs_within (vec_items after.codes) (vec_items after.runs) pushed.codes pushed.runs c.args.context c.requires c.in-Group.is;
+      does = run_literal before.codes.items before.runs.items c.args.code before.runs_within after.codes.items after.runs.items pushed.codes pushed.runs c.args.context c.requires c.in-Group.is;
       items = pushed.items;
-      within = stays_within (vec_items before.codes) (vec_items before.runs) c.args.code before.runs_within (vec_items after.codes) (vec_items after.runs) pushed.codes pushed.runs c.args.context c.requires;
+      within = stays_within before.codes.items before.runs.items c.args.code before.runs_within after.codes.items after.runs.items pushed.codes pushed.runs c.args.context c.requires;
     }

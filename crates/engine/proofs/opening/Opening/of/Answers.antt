@@ -1,5 +1,5 @@
 -- What stands before the anchor is a part of the pattern's items.
-use Rattle.std.proofs.Common.{◌≡◌, ◌-◌, min, take, drop, vec_items, ap, ◌∙◌, subst, sym}
+use Rattle.std.proofs.Common.{◌≡◌, ◌-◌, min, take, drop, ap, ◌∙◌, subst, sym}
 use Rattle.patterns.specs.Fragments.{bodies}
 use Rattle.patterns.specs.Spans.{sum_span}
 use Rattle.engine.specs.Finding.{part_of}
@@ -13,8 +13,8 @@ use Rattle.engine.proofs.opening.Opening.of.Goals as goal
 pub far_of-requires : goal.far_of-requires
 far_of-requires c =
     let pattern = c.args.pattern.now in
-    let codes = vec_items pattern.codes in
-    let runs = vec_items pattern.runs in
+    let codes = pattern.codes.items in
+    let runs = pattern.runs.items in
     let first = c.args.fragment.now.first in
     let slice = c.deref.result.now in
     let within = subst (HasParts pattern) (sym c.deref.ensures.value) pattern.parts_within in
@@ -23,12 +23,12 @@ far_of-requires c =
 pub returns-clause-opening : goal.returns-clause-opening
 returns-clause-opening c =
     let pattern = c.args.pattern.now in
-    let codes = vec_items pattern.codes in
-    let runs = vec_items pattern.runs in
+    let codes = pattern.codes.items in
+    let runs = pattern.runs.items in
     let first = c.args.fragment.now.first in
     let n = c.args.fragment.now.anchor - first in
     let front : items_in pattern (take n (drop first c.deref.result.now)) ≡ part_of (held pattern) first c.args.fragment.now.anchor =
-    ap (λ ps. items_in pattern (take n (drop first ps))) c.deref.ensures.value ∙ ap bodies (items_between codes runs (vec_items pattern.parts) first n) in
+    ap (λ ps. items_in pattern (take n (drop first ps))) c.deref.ensures.value ∙ ap bodies (items_between codes runs pattern.parts.items first n) in
     record {
       code = c.first_code.ensures pattern ∙ ap opening_code front;
       far = c.far_of.ensures ∙ ap (λ is. min 1023 (sum_span is)) front;

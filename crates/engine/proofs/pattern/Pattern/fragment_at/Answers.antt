@@ -1,29 +1,29 @@
-use Rattle.std.proofs.Common.{◌-◌, take, drop, vec_items, sym, ap, subst}
+use Rattle.std.proofs.Common.{◌-◌, take, drop, sym, ap, subst}
 use Rattle.engine.specs.Compiling.{Shifts}
 use Rattle.engine.specs.Parts.{HasParts}
 use Rattle.engine.proofs.Assembling.{assembled}
 use Rattle.engine.proofs.Lengths.{parts_take_within, parts_drop_within}
 use Rattle.engine.proofs.pattern.Pattern.fragment_at.Goals as goal
 
-pub lead-requires : goal.lead-requires
-lead-requires c =
-    let codes = vec_items c.args.self.now.codes in
-    let runs = vec_items c.args.self.now.runs in
+pub least_of-requires : goal.least_of-requires
+least_of-requires c =
+    let codes = c.args.self.now.codes.items in
+    let runs = c.args.self.now.runs.items in
     let first = c.args.first in
     let n = c.args.end - first in
     let slice = c.deref.result.now in
-    let within = subst (HasParts c.args.self.now) (sym c.deref.ensures.value) c.args.self.now.parts_within in
+    let within = subst (HasParts c.args.self.now) (sym c.deref.ensures.0) c.args.self.now.parts_within in
     parts_take_within codes runs c.anchor-start.result.start (take n (drop first slice)) (parts_take_within codes runs n (drop first slice) (parts_drop_within codes runs first slice within))
 
 pub returns : goal.returns
 returns c =
-    let codes = vec_items c.args.self.now.codes in
-    let runs = vec_items c.args.self.now.runs in
+    let codes = c.args.self.now.codes.items in
+    let runs = c.args.self.now.runs.items in
     let first = c.args.first in
     let end = c.args.end in
     let slice = c.deref.result.now in
-    assembled codes runs (vec_items c.args.self.now.parts) c.args.reference first end c.requires.0 c.requires.1
-    (take (end - first) (drop first slice)) (ap (λ ps. take (end - first) (drop first ps)) c.deref.ensures.value)
+    assembled codes runs c.args.self.now.parts.items c.args.reference first end c.requires.ordered c.requires.inside
+    (take (end - first) (drop first slice)) (ap (λ ps. take (end - first) (drop first ps)) c.deref.ensures.0)
     c.anchor-start.result.start c.anchor-start.result.len (c.anchor-start.ensures.anchored codes runs)
     c.args.gap c.in_ok-lead.field-0 c.in_ok-codes.codes c.in_ok-shifts.shifts c.in_ok-lead.ensures c.in_ok-codes.ensures
     (subst (Shifts c.in_ok-shifts.shifts) c.as_slice.ensures.value c.in_ok-shifts.ensures)

@@ -6,4 +6,4 @@ use Rattle.engine.proofs.sequence.Sequence.fragment_count.Goals as goal
 pub returns : goal.returns
 returns g c =
     let s = c.self.inside in
-    c.len.ensures ∙ s.fragments.ok.0 ∙ counted s.oriented s.fragments.items c.self.invariant ∙ ap (λ v. length (parts_said v)) c.self.view_is
+    c.len.ensures.value ∙ counted s.oriented s.fragments.items c.self.invariant ∙ ap (λ v. length (parts_said v)) c.self.view_is

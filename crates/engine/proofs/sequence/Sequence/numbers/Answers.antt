@@ -12,8 +12,8 @@ returns-in_err-fragment g c =
     let s = c.self.inside in
     let at = c.in_ok-checked_sub.ensures in
     let place = c.in_ok-checked_sub.field-0 in
-    let lent = ap (λ l. slice_get l place) (sym c.deref.ensures.value) in
-    let none = ap (slice_get s.fragments.items) (sym at.1) ∙ lent ∙ sym (nth_item c.deref.result.now place c.get.result c.get.ensures.lookup) ∙ ap (option_map (λ x. x.now)) c.in_err-fragment.was in
+    let lent = ap (λ l. slice_get l place) (sym c.as_slice-fragments.ensures.value) in
+    let none = ap (slice_get s.fragments.items) (sym at.1) ∙ lent ∙ sym (nth_item c.as_slice-fragments.result.now place c.get.result c.get.ensures.lookup) ∙ ap (option_map (λ x. x.now)) c.in_err-fragment.was in
     c.from_residual-in_err-fragment.ensures
     ∙ shown_none s.oriented s.fragments.items c.self.invariant c.args.fragment c.args.index at.0 none
     ∙ ap (λ v. shown v c.args.fragment c.args.index) c.self.view_is
@@ -24,8 +24,8 @@ returns g c =
     let fragment : Fragment = c.in_ok-fragment.fragment.now in
     let at = c.in_ok-checked_sub.ensures in
     let place = c.in_ok-checked_sub.field-0 in
-    let lent = ap (λ l. slice_get l place) (sym c.deref.ensures.value) in
-    let found = ap (slice_get s.fragments.items) (sym at.1) ∙ lent ∙ sym (nth_item c.deref.result.now place c.get.result c.get.ensures.lookup) ∙ ap (option_map (λ x. x.now)) c.in_ok-fragment.was in
-    (λ k. Some (fragment.gap, fragment.lead, c.len.ensures k, get_or fragment.shifts (c.from.ensures k) 0))
+    let lent = ap (λ l. slice_get l place) (sym c.as_slice-fragments.ensures.value) in
+    let found = ap (slice_get s.fragments.items) (sym at.1) ∙ lent ∙ sym (nth_item c.as_slice-fragments.result.now place c.get.result c.get.ensures.lookup) ∙ ap (option_map (λ x. x.now)) c.in_ok-fragment.was in
+    (λ k. Some (c.gap_before.ensures k, c.lead.ensures k, c.anchor_len.ensures k, c.shift.ensures k))
     ∙ shown_some s.oriented s.fragments.items c.self.invariant c.args.fragment c.args.index fragment at.0 c.ranges.index.fits found
     ∙ ap (λ v. shown v c.args.fragment c.args.index) c.self.view_is

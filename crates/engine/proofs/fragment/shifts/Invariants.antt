@@ -1,7 +1,7 @@
 use Rattle.std.proofs.Common.{◌≡◌, ℕ, ◌+◌, ◌<◌, length}
 use Rattle.patterns.specs.Fragments.{shift}
 use Rattle.engine.proofs.Shifting.{Becomes}
-use Rattle.engine.proofs.compile.shifts.Given as goal
+use Rattle.engine.proofs.fragment.shifts.Given as goal
 
 -- the distances that are left count down over the codes that are left, which make the table that of the shifts
 abbrev pub invariant-loop-code : goal.invariant-loop-code

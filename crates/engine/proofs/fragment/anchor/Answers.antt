@@ -3,13 +3,13 @@ use Rattle.std.proofs.lemmas.Bool.{both_ways}
 use Rattle.patterns.specs.Fragments.{literal_code}
 use Rattle.engine.specs.Compiling.{part_items, Anchors}
 use Rattle.engine.specs.Stored.{item_of}
-use Rattle.engine.specs.declared.compile.Literals.{Literals}
-use Rattle.engine.specs.declared.part.Part.TheVariants as part
-use Rattle.engine.specs.declared.run.Run.{Run}
+use Rattle.engine.specs.declared.fragment.Literals.{Literals}
+use Rattle.engine.specs.declared.pattern.Part.TheVariants as part
+use Rattle.engine.specs.declared.pattern.Run.{Run}
 use Rattle.engine.proofs.Anchoring.{Searching, search_begins, search_literal, search_other, search_ends}
 use Rattle.engine.proofs.Bodies.{part_items_length, part_items_at, no_code}
-use Rattle.engine.proofs.compile.anchor.Goals as goal
-use Rattle.engine.proofs.compile.anchor.Goals.{in-Literal, in_default, then-not-matches, else-not-matches}
+use Rattle.engine.proofs.fragment.anchor.Goals as goal
+use Rattle.engine.proofs.fragment.anchor.Goals.{in-Literal, in_default, then-not-matches, else-not-matches}
 
 pub loop-i-init : goal.loop-i-init
 loop-i-init c = (

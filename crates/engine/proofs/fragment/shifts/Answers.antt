@@ -2,7 +2,7 @@ use Rattle.std.proofs.Common.{replicate, ◌≡◌, ℕ, ◌+◌, length, refl, 
 use Rattle.std.specs.declared.ops.Range.{Range}
 use Rattle.patterns.specs.Fragments.{shift}
 use Rattle.engine.proofs.Shifting.{Becomes, becomes_at_first}
-use Rattle.engine.proofs.compile.shifts.Goals as goal
+use Rattle.engine.proofs.fragment.shifts.Goals as goal
 
 pub loop-code-init : goal.loop-code-init
 loop-code-init c =

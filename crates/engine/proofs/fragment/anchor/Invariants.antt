@@ -1,8 +1,8 @@
 use Rattle.std.proofs.Common.{ℕ, ◌≤◌, List}
 use Rattle.engine.specs.Compiling.{part_items}
-use Rattle.engine.specs.declared.run.Run.{Run}
+use Rattle.engine.specs.declared.pattern.Run.{Run}
 use Rattle.engine.proofs.Anchoring.{Searching}
-use Rattle.engine.proofs.compile.anchor.Given as goal
+use Rattle.engine.proofs.fragment.anchor.Given as goal
 
 -- the best run so far, and the run that goes on
 abbrev pub invariant-loop-i : goal.invariant-loop-i

@@ -1,9 +1,0 @@
-use Rattle.std.proofs.Common.{ℕ, List}
-use Rattle.engine.specs.Stored.{items}
-use Rattle.engine.specs.declared.run.Run.{Run}
-use Rattle.engine.proofs.Cutting.{Cutting}
-use Rattle.engine.proofs.compile.cut_first.Given as goal
-
--- the body so far, and the row of gaps behind it
-abbrev pub invariant-loop-i : goal.invariant-loop-i
-invariant-loop-i l = (codes : List ℕ) (runs : List Run) → Cutting (items codes runs l.parts) l.end l.i l.endless l.between

@@ -1,0 +1,8 @@
+use Rattle.std.proofs.Common.{◌≡◌, ◌≤◌, ◌++◌, length, drop}
+use Rattle.engine.specs.Compiling.{part_codes}
+use Rattle.engine.proofs.fragment.literal_codes.Given as goal
+
+-- the codes so far and those of the parts that are left are all, no more than parts were passed
+abbrev pub invariant-loop-placed : goal.invariant-loop-placed
+invariant-loop-placed l =
+    (l.codes.items ++ part_codes (drop l.placed-index l.placed-items) ≡ part_codes l.placed-items) × (length l.codes.items ≤ l.placed-index)

@@ -1,0 +1,6 @@
+use Rattle.std.proofs.Common.{◌≡◌, take}
+use Rattle.engine.proofs.mirror.reversed.Given as goal
+
+-- the copy has what was passed
+abbrev pub invariant-loop-x : goal.invariant-loop-x
+invariant-loop-x g l = l.reversed.items ≡ take l.x-index l.x-items

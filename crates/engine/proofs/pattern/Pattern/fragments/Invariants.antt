@@ -1,0 +1,13 @@
+use Rattle.std.proofs.Common.{◌-◌, ◌≤◌, length}
+use Rattle.patterns.specs.Fragments.{fragments}
+use Rattle.engine.specs.Reading.{held}
+use Rattle.engine.proofs.Assembling.{Completes}
+use Rattle.engine.proofs.pattern.Pattern.fragments.Given as goal
+
+-- the fragments of what is left complete those that were compiled
+abbrev pub invariant-loop-start : goal.invariant-loop-start
+invariant-loop-start l =
+    (l.first ≤ length l.parts) × Completes l.reference (held l.self) l.first l.gap l.fragments.items (fragments l.lo (held l.self))
+
+abbrev pub decreases-loop-start : goal.decreases-loop-start
+decreases-loop-start l = length l.parts - l.first

@@ -79,7 +79,7 @@ module _ (r : Reference) (qs mirror : List Placed) (f : Fragment) (g : spec.Frag
 
   -- it has as many codes as the compiled fragment
   pub codes_long : length f.codes.items ≡ length a.codes
-  codes_long = f.codes.ok.0 ∙ ap length s.holds.codes
+  codes_long = ap length s.holds.codes
 
   -- a part of the fragment's items is one of the pattern's
   part_is : (from to : ℕ) → f.first ≤ from → from ≤ to → to ≤ f.end → take (to - from) (drop (from - f.first) (bodies g.body)) ≡ part_of qs from to

@@ -43,5 +43,5 @@ module _ (r : Reference) (items : List Placed) where
   shown_some fs gs number index f some byte h e =
       let found = hold_at fs gs (number - 1) f h e in
       let same = found.2 in
-      let long = f.codes.ok.0 ∙ ap length same.codes in
+      let long = ap length same.codes in
       (λ i. Some (same.break i, same.leads i, long i, same.shifts index byte i)) ∙ sym (at_number gs number index some ∙ ap (option_map (numbers r index)) found.1)

@@ -51,16 +51,23 @@ oriented_twice Front qs = refl
 oriented_twice Back qs = mirrored_placed_twice qs
 oriented_twice Anywhere qs = refl
 
+-- the items that are compiled from a text are, in the order of the text, a text's, and not refused
+compiled_text : {E : Type 0} (a : Alphabet E) (t : List ℕ) (r : Reference) (qs items : List Placed) → outcome a t ≡ Ok qs → items ≡ oriented r qs
+    → Ordered start (oriented r items) × (refusal (oriented r items) ≡ None)
+compiled_text a t r qs items read order =
+    let (text, accepted) = outcome_items a t qs read in
+    let back : oriented r items ≡ qs = ap (oriented r) order ∙ oriented_twice r qs in
+    (subst (Ordered start) (sym back) (reader.sound a t qs text).0, ap refusal back ∙ accepted)
+
 -- what is compiled from a text is sound
 pub compiled_sound : {E : Type 0} (a : Alphabet E) (t : List ℕ) (r : Reference) (lo : ℕ) (qs items mirror : List Placed) (fs : List Fragment)
     → outcome a t ≡ Ok qs → items ≡ oriented r qs → mirror ≡ mirrored_placed items → Hold r items fs (fragments lo items)
     → Sound r lo items mirror fs
 compiled_sound a t r lo qs items mirror fs read order mirrors held =
-    let (text, accepted) = outcome_items a t qs read in
-    let back : oriented r items ≡ qs = ap (oriented r) order ∙ oriented_twice r qs in
+    let (ordered, accepted) = compiled_text a t r qs items read order in
     record {
-      ordered = subst (Ordered start) (sym back) (reader.sound a t qs text).0;
-      accepted = ap refusal back ∙ accepted;
+      ordered = ordered;
+      accepted = accepted;
       mirrors = mirrors;
       compiled = held;
     }
@@ -111,6 +118,12 @@ searchable Back items break order accepted =
 searchable Anywhere items break order accepted =
     let (within, bare) = accepted_parts items accepted in
     (within, any_break (λ b. some is_literal b ≡ true) items 0 break [] [] (none_bare (fragments 0 items) bare))
+
+-- what is compiled from a text is within the limits
+pub compiled_within : {E : Type 0} (a : Alphabet E) (t : List ℕ) (r : Reference) (qs items : List Placed) → outcome a t ≡ Ok qs → items ≡ oriented r qs → limit_place items ≡ None
+compiled_within a t r qs items read order =
+    let (ordered, accepted) = compiled_text a t r qs items read order in
+    (searchable r items 0 ordered accepted).0
 
 -- compiled fragments that can be searched for, one for one
 abbrev pub AllSearched : Reference → List Placed → List Placed → List Fragment → List spec.Fragment → Type 0

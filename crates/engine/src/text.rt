@@ -44,11 +44,7 @@ fn in_order(pattern: Pattern, reference: Reference) -> Pattern
 }
 
 // A text compiled for its search, or its refusal.
-pub fn compiled<K: Kind>(
-    number: u8,
-    offsets: Offsets,
-    text: &[u8],
-) -> Result<Sequence, Failure>
+pub fn compiled<K: Kind>(number: u8, offsets: Offsets, text: &[u8]) -> Result<Sequence, Failure>
     ensures { Compiled K.alphabet text.now number offsets.reference offsets.lo offsets.hi result }
 {
     let Offsets { reference, lo, .. } = offsets;
@@ -97,11 +93,7 @@ pub fn show<K: Kind>(
 }
 
 // Whether a text, compiled, hits a reading; or the text's refusal.
-pub fn hit<R: Reading>(
-    offsets: Offsets,
-    text: &[u8],
-    reading: &R,
-) -> Result<bool, Failure>
+pub fn hit<R: Reading>(offsets: Offsets, text: &[u8], reading: &R) -> Result<bool, Failure>
     ensures { Hit R.Element.alphabet text.now 1 offsets.reference offsets.lo offsets.hi (codes_of R.Element.alphabet (R.elements reading.now)) result }
 {
     let sequence = compiled::<R::Element>(1, offsets, text)?;

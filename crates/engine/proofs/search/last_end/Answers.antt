@@ -1,4 +1,4 @@
-use Rattle.std.proofs.Common.{◌≡◌, ◌^◌, ◌<◌, length, None, sym, ap, ◌∙◌, arith}
+use Rattle.std.proofs.Common.{◌≡◌, ◌+◌, ◌^◌, ◌<◌, length, None, sym, ap, ◌∙◌, subst, arith}
 use Rattle.std.specs.Option.{is_some}
 use Rattle.std.proofs.lemmas.List.{length-map}
 use Rattle.kinds.specs.Fragments.{bodies}
@@ -34,13 +34,13 @@ returns-in_err-from g c =
     let whole = sym c.as_slice.ensures.value ∙ c.in_ok-first.ensures.cases.0 in
     ap is_some c.from_residual-in_err-from.ensures
     ∙ come_past c.args.sequence.now c.args.starts xs c.in_ok-first.first.now c.in_ok-first.others.now whole c.loop-fragment.fragment-index c.loop-fragment.end c.loop-fragment.invariant
-    c.fragment-item.result c.fragment-item.is c.loop-fragment-test.true c.in_err-from.ensures few
+    c.fragment-item.result c.fragment-item.is c.loop-fragment-test.true (subst (λ n. c.loop-fragment.end + n < 2 ^ 64 → ⊥) c.from.ensures c.in_err-from.ensures) few
 
 pub returns-in_err-end-2 : goal.returns-in_err-end-2
 returns-in_err-end-2 g c =
     let xs = codes_of g.R.Element.Kind.alphabet (g.R.Reading.elements c.args.reading.now) in
     let whole = sym c.as_slice.ensures.value ∙ c.in_ok-first.ensures.cases.0 in
-    let from = c.in_ok-from.ensures.1 in
+    let from = c.in_ok-from.ensures.1 ∙ ap (λ n. c.loop-fragment.end + n) c.from.ensures in
     ap is_some c.from_residual-in_err-end-2.ensures
     ∙ come_none c.args.sequence.now c.args.starts xs c.in_ok-first.first.now c.in_ok-first.others.now whole c.loop-fragment.fragment-index c.loop-fragment.end c.loop-fragment.invariant
     c.fragment-item.result c.fragment-item.is c.loop-fragment-test.true
@@ -50,7 +50,7 @@ pub loop-fragment-preserved : goal.loop-fragment-preserved
 loop-fragment-preserved g c =
     let xs = codes_of g.R.Element.Kind.alphabet (g.R.Reading.elements c.args.reading.now) in
     let whole = sym c.as_slice.ensures.value ∙ c.in_ok-first.ensures.cases.0 in
-    let from = c.in_ok-from.ensures.1 in
+    let from = c.in_ok-from.ensures.1 ∙ ap (λ n. c.loop-fragment.end + n) c.from.ensures in
     come_next c.args.sequence.now c.args.starts xs c.in_ok-first.first.now c.in_ok-first.others.now whole c.loop-fragment.fragment-index c.loop-fragment.end c.loop-fragment.invariant
     c.fragment-item.result c.fragment-item.is c.loop-fragment-test.true c.in_ok-end-2.end
     (λ g' k. sym c.in_ok-end-2.was ∙ c.least_end-in-loop-fragment.ensures g' k ∙ ap (λ n. least_end (bodies g'.body) n None xs) from)

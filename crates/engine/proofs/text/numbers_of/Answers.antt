@@ -19,5 +19,5 @@ returns c reference items gs held =
     let fragment : Fragment = c.in_ok-fragment.fragment.now in
     let at = c.in_ok-checked_sub.ensures in
     let found = ap (slice_get fragments) (sym at.1) ∙ sym (nth_item fragments c.in_ok-checked_sub.field-0 c.get.result c.get.ensures.lookup) ∙ ap (option_map (λ x. x.now)) c.in_ok-fragment.was in
-    (λ k. Some (fragment.gap, fragment.lead, c.len.ensures k, get_or fragment.shifts (c.from.ensures k) 0))
+    (λ k. Some (c.gap_before.ensures k, c.lead.ensures k, c.anchor_len.ensures k, c.shift.ensures k))
     ∙ shown_some reference items fragments gs c.args.number c.args.index fragment at.0 c.ranges.index.fits held found

@@ -1,5 +1,5 @@
 -- Compiled fragments, one by one and together.
-use Rattle.std.proofs.Common.{◌≡◌, ℕ, ◌+◌, ◌-◌, ◌<◌, ◌≤◌, List, [], ◌∷◌, ◌++◌, length, take, drop, Some, None, Option, sym, refl, ap, ◌∙◌, subst, arith, length-drop, length-take}
+use Rattle.std.proofs.Common.{◌≡◌, ℕ, ◌+◌, ◌-◌, ◌<◌, ◌≤◌, List, [], ◌∷◌, ◌++◌, length, take, drop, Some, None, Option, sym, refl, ap, ◌∙◌, subst, arith, length-append, length-drop, length-take}
 use lib.ListN.{length-map}
 use Rattle.std.proofs.lemmas.List.{append_assoc, drop-drop, take-map, drop-map, take_rest}
 use Rattle.arrayvec.specs.ArrayVec.{ArrayVec}
@@ -152,6 +152,16 @@ module _ (p : Pattern) (slice : List PlacedPart) (slice_is : slice ≡ p.parts.i
         → (done more : List Fragment) (whole : List spec.Fragment) → Completes r (held p) first gap done whole → more ≡ done ++ f ∷ [] → Completes r (held p) (first + start) between more whole
     pushed_more r gap f holds done more whole so_far e =
         subst (λ fs. Completes r (held p) (first + start) between fs whole) (sym e) (completes_more r (held p) first cut.end gap f holds done whole so_far start between cuts_some)
+
+    -- there is room for the others, as there was for all
+    pub counted_more : (gap : ℕ) (f : Fragment) (done more : List Fragment) → length done + length (cut_from gap [] [] (drop first (held p))) ≤ 8 → more ≡ done ++ f ∷ []
+        → length more + length (cut_from between [] [] (drop (first + start) (held p))) ≤ 8
+    counted_more gap f done more room e =
+        let on : drop start (drop first (held p)) ≡ drop (first + start) (held p) = drop-drop start first (held p) in
+        let split = ap length (cuts_some.2 gap) in
+        let rest = ap (λ qs. length (cut_from between [] [] qs)) on in
+        let long = ap length e ∙ length-append done (f ∷ []) in
+        omega arith
 
   -- the last fragment is pushed
   pub pushed_last : cut.next ≡ None → (r : Reference) (gap : ℕ) (f : Fragment) → Holds r (held p) f (record { break = gap; body = take (first + cut.end - first) (drop first (held p)) })

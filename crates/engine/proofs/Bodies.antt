@@ -1,6 +1,6 @@
 -- Parts of lists, the items of stored parts, and those of some of them.
 use Rattle.std.proofs.Common.{◌≡◌, ℕ, zero, suc, ◌+◌, ◌-◌, ◌<◌, ◌≤◌, List, [], ◌∷◌, ◌++◌, length, get_or, take, drop, Some, None, Option, refl, ap, ◌∙◌, suc-le-suc, arith, length-drop}
-use Rattle.std.proofs.lemmas.List.{take_more, get_or-drop}
+use Rattle.std.proofs.lemmas.List.{take_more, drop_more, get_or-drop}
 use Rattle.std.specs.List.{cons_option}
 use Rattle.patterns.specs.Fragments.{literal_code}
 use Rattle.patterns.specs.Patterns.{any}
@@ -52,7 +52,7 @@ part_code_is codes runs part.Any = refl
 part_code_is codes runs (part.Group first count) = refl
 part_code_is codes runs (part.Range d inside low high) = refl
 part_code_is codes runs (part.Other run) = refl
-part_code_is codes runs (part.Gap g) = refl
+part_code_is codes runs (part.Gap m n) = refl
 
 -- so the codes of the literals among parts are those of their items
 pub part_codes_are : (codes : List ℕ) (runs : List Run) (ps : List PlacedPart) → part_codes ps ≡ literal_codes (part_items codes runs ps)
@@ -70,4 +70,20 @@ no_code codes runs part.Any h = refl
 no_code codes runs (part.Group first count) h = refl
 no_code codes runs (part.Range d inside low high) h = refl
 no_code codes runs (part.Other run) h = refl
-no_code codes runs (part.Gap g) h = refl
+no_code codes runs (part.Gap m n) h = refl
+
+-- the codes from a literal on, which begin with its own
+pub codes_on : (ps : List PlacedPart) (i c : ℕ) (d : PlacedPart) → i < length ps → (get_or ps i d).part ≡ part.Literal c → part_codes (drop i ps) ≡ c ∷ part_codes (drop (i + 1) ps)
+codes_on ps i c d l at = ap part_codes (drop_more ps i d l) ∙ ap (λ p. cons_option (part_code p) (part_codes (drop (i + 1) ps))) at
+
+-- the codes from a part on that is no literal, which are those behind it
+pub codes_past : (ps : List PlacedPart) (i : ℕ) (d : PlacedPart) → i < length ps → ((c : ℕ) → (get_or ps i d).part ≡ part.Literal c → ⊥) → part_codes (drop i ps) ≡ part_codes (drop (i + 1) ps)
+codes_past ps i d l other = ap part_codes (drop_more ps i d l) ∙ past (get_or ps i d).part other
+  where
+    past : (p : Part) → ((c : ℕ) → p ≡ part.Literal c → ⊥) → cons_option (part_code p) (part_codes (drop (i + 1) ps)) ≡ part_codes (drop (i + 1) ps)
+    past (part.Literal c) h = absurd (h c refl)
+    past part.Any h = refl
+    past (part.Group first count) h = refl
+    past (part.Range d inside low high) h = refl
+    past (part.Other run) h = refl
+    past (part.Gap m n) h = refl

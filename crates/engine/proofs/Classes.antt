@@ -11,7 +11,7 @@ use Rattle.engine.specs.declared.token.Class.{Class}
 use Rattle.engine.specs.declared.token.Class.TheVariants.{Mark, Question, Star, Brace, Pair, Misplaced}
 use Rattle.engine.specs.declared.token.Expects.{Expects}
 use Rattle.engine.specs.declared.token.Expects.TheVariants as expects
-use Rattle.engine.specs.declared.pattern.Gap.{Gap}
+use Rattle.engine.specs.declared.token.Gap.{Gap}
 use Rattle.engine.specs.declared.token.Punctuation.{Punctuation}
 use Rattle.engine.specs.declared.token.Token.TheVariants as token
 use Rattle.engine.proofs.Gaps.{stands_true}

@@ -12,7 +12,6 @@ use Rattle.engine.specs.Stored.{item_of}
 use Rattle.engine.specs.declared.pattern.Part.{Part}
 use Rattle.engine.specs.declared.pattern.Part.TheVariants as part
 use Rattle.engine.specs.declared.pattern.Run.{Run}
-use Rattle.engine.specs.declared.pattern.Gap.{Gap}
 use Rattle.engine.proofs.Bodies.{stretch_more}
 
 -- tests joined in another order
@@ -118,13 +117,13 @@ module _ (qs : List Placed) where
           )
 
 -- the item of a part that is no gap
-pub no_gap : (codes : List ℕ) (runs : List Run) (p : Part) → ((g : Gap) → p ≡ part.Gap g → ⊥) → is_gap (item_of codes runs p) ≡ false
+pub no_gap : (codes : List ℕ) (runs : List Run) (p : Part) → ((m : ℕ) (n : Option ℕ) → p ≡ part.Gap m n → ⊥) → is_gap (item_of codes runs p) ≡ false
 no_gap codes runs (part.Literal c) h = refl
 no_gap codes runs part.Any h = refl
 no_gap codes runs (part.Group first count) h = refl
 no_gap codes runs (part.Range d inside low high) h = refl
 no_gap codes runs (part.Other run) h = refl
-no_gap codes runs (part.Gap g) h = absurd (h g refl)
+no_gap codes runs (part.Gap m n) h = absurd (h m n refl)
 
 -- a gap is endless where it has no upper end
 pub endless_gap : (m : ℕ) (n : Option ℕ) → endless (pattern.gap m n) ≡ not (is_some n)

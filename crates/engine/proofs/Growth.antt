@@ -77,7 +77,7 @@ module _ (codes more : List ℕ) (runs later : List Run) where
       let parts = and_parts (run_within codes low) (run_within codes high) h in
       and_from _ _ (run_within_more codes more low parts.0) (run_within_more codes more high parts.1)
   part_within_more (part.Other run) h = run_within_more codes more run h
-  part_within_more (part.Gap g) h = refl
+  part_within_more (part.Gap m n) h = refl
 
   -- so do all items
   pub parts_within_more : (ps : List PlacedPart) → all_parts_within codes runs ps ≡ true → all_parts_within (codes ++ more) (runs ++ later) ps ≡ true
@@ -102,7 +102,7 @@ module _ (codes more : List ℕ) (runs later : List Run) where
         let parts = and_parts (run_within codes low) (run_within codes high) h in
         λ i. range direction inside (run_codes_more codes more low parts.0 i) (run_codes_more codes more high parts.1 i)
     item_more (part.Other run) h = ap other (run_codes_more codes more run h)
-    item_more (part.Gap g) h = refl
+    item_more (part.Gap m n) h = refl
 
     -- so are all items
     pub items_more : (ps : List PlacedPart) → all_parts_within codes runs ps ≡ true → items (codes ++ more) (runs ++ later) ps ≡ items codes runs ps

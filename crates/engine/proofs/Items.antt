@@ -57,7 +57,7 @@ behind_in codes runs part.Any = refl
 behind_in codes runs (part.Group first count) = refl
 behind_in codes runs (part.Range direction inside first second) = refl
 behind_in codes runs (part.Other run) = refl
-behind_in codes runs (part.Gap g) = refl
+behind_in codes runs (part.Gap m n) = refl
 
 module _ {E : Type 0} (a : Alphabet E) where
   -- one item more before the rest
@@ -164,4 +164,4 @@ behind_within p part.Any = tt
 behind_within p (part.Group first count) = tt
 behind_within p (part.Range direction inside first second) = tt
 behind_within p (part.Other run) = tt
-behind_within p (part.Gap g) = tt
+behind_within p (part.Gap m n) = tt

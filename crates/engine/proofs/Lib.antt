@@ -5,6 +5,7 @@ pub mod Beside
 pub mod Bodies
 pub mod Classes
 pub mod Comparing
+pub mod Counting
 pub mod Cutting
 pub mod Examples
 pub mod Finding

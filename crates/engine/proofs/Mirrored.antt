@@ -59,7 +59,7 @@ module _ (codes : List ℕ) (runs : List Run) (all : all_runs_within codes runs 
       let parts = and_parts (run_within codes low) (run_within codes high) within in
       λ i. range (turned direction) inside (run_turned codes low parts.0 i) (run_turned codes high parts.1 i)
   part_turned (part.Other run) within = ap other (run_turned codes run within)
-  part_turned (part.Gap g) within = refl
+  part_turned (part.Gap m n) within = refl
 
   -- the turned parts, in reverse order, stand for the mirrored items
   pub items_turned : (ps : List PlacedPart) → all_parts_within codes runs ps ≡ true → items (reverse codes) (map (turned_run (length codes)) runs) (map (turned_placed (length codes)) (reverse ps)) ≡ mirrored_placed (items codes runs ps)
@@ -96,7 +96,7 @@ module _ (codes : List ℕ) (runs : List Run) where
       let parts = and_parts (run_within codes low) (run_within codes high) within in
       and_from (run_within (reverse codes) (turned_run (length codes) low)) (run_within (reverse codes) (turned_run (length codes) high)) (turned_run_within codes low parts.0) (turned_run_within codes high parts.1)
   turned_part_within (part.Other run) within = turned_run_within codes run within
-  turned_part_within (part.Gap g) within = refl
+  turned_part_within (part.Gap m n) within = refl
 
   -- the turned parts lie within
   pub turned_parts_within : (ps : List PlacedPart) → all_parts_within codes runs ps ≡ true → all_parts_within (reverse codes) (map (turned_run (length codes)) runs) (map (turned_placed (length codes)) (reverse ps)) ≡ true

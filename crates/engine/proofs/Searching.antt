@@ -7,7 +7,7 @@ use mathlib.Core.Logic.{∥∥₁_elim}
 use Rattle.std.specs.List.{slice_get}
 use Rattle.std.proofs.lemmas.Bool.{cases_lt}
 use Rattle.patterns.specs.Fragments as spec
-use Rattle.patterns.specs.Fragments.{bodies, fragments}
+use Rattle.patterns.specs.Fragments.{bodies, fragments, limit_place}
 use Rattle.patterns.specs.Grammar.{Placed}
 use Rattle.patterns.specs.Patterns.{Item}
 use Rattle.patterns.specs.Search.{least_end, search_end}
@@ -22,6 +22,10 @@ use Rattle.engine.proofs.Sounds.{Within, within, part_at, none_at, opened, opene
 -- two equations of ends are one
 option_nat_set : (b c : Option ℕ) → IsProp (b ≡ c)
 option_nat_set b c = hlevel (props, ℕ_set)
+
+-- the items of a pattern in the order of its search are within the limits
+pub limits_of : (s : Oriented) → limit_place (held s.pattern) ≡ None
+limits_of s = ∥∥₁_elim s.accepted (option_nat_set _ _) (λ k. (within s k).limits)
 
 -- a list reversed before each item is mapped, or after
 pub map_reverse : {X Y : Type 0} (f : X → Y) (xs : List X) → map f (reverse xs) ≡ reverse (map f xs)

@@ -43,7 +43,7 @@ context_behind part.Any = context.AfterThing
 context_behind (part.Group first count) = context.AfterThing
 context_behind (part.Range direction inside first second) = context.AfterThing
 context_behind (part.Other run) = context.AfterThing
-context_behind (part.Gap g) = context.AfterGap
+context_behind (part.Gap m n) = context.AfterGap
 
 -- the state that a context stands for, over the codes and runs that are stored
 abbrev pub state_of : List ℕ → List Run → Context → State

@@ -18,7 +18,7 @@ item_of codes runs part.Any = any
 item_of codes runs (part.Group first count) = group (map (run_codes codes) (take count (drop first runs)))
 item_of codes runs (part.Range direction inside low high) = range direction inside (run_codes codes low) (run_codes codes high)
 item_of codes runs (part.Other run) = other (run_codes codes run)
-item_of codes runs (part.Gap g) = gap g.least g.most
+item_of codes runs (part.Gap m n) = gap m n
 
 -- the same with its place
 abbrev pub placed_of : List ℕ → List Run → PlacedPart → Placed
@@ -44,7 +44,7 @@ part_within codes runs part.Any = true
 part_within codes runs (part.Group first count) = nat_le (first + count) (length runs)
 part_within codes runs (part.Range direction inside low high) = run_within codes low && run_within codes high
 part_within codes runs (part.Other run) = run_within codes run
-part_within codes runs (part.Gap g) = true
+part_within codes runs (part.Gap m n) = true
 
 -- all of some parts do
 abbrev pub all_parts_within : List ℕ → List Run → List PlacedPart → Bool

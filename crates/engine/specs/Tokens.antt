@@ -9,7 +9,7 @@ use Rattle.engine.specs.declared.token.Punctuation.{Punctuation}
 use Rattle.engine.specs.declared.token.Punctuation.TheVariants.{OpenGroup, Bar, CloseGroup, OpenRange, Except, Colon, CloseRange}
 use Rattle.engine.specs.declared.token.Expects.{Expects}
 use Rattle.engine.specs.declared.token.Expects.TheVariants as expects
-use Rattle.engine.specs.declared.pattern.Gap.{Gap}
+use Rattle.engine.specs.declared.token.Gap.{Gap}
 use Rattle.engine.specs.declared.token.Class.{Class}
 use Rattle.engine.specs.declared.token.Class.TheVariants as class
 use Rattle.engine.specs.declared.token.Token.{Token}

@@ -17,7 +17,7 @@ turned_part n part.Any = part.Any
 turned_part n (part.Group first count) = part.Group first count
 turned_part n (part.Range direction inside low high) = part.Range (turned direction) inside (turned_run n low) (turned_run n high)
 turned_part n (part.Other run) = part.Other (turned_run n run)
-turned_part n (part.Gap g) = part.Gap g
+turned_part n (part.Gap least most) = part.Gap least most
 
 -- the same with its place
 abbrev pub turned_placed : ℕ → PlacedPart → PlacedPart

@@ -14,23 +14,13 @@ pub enum Context {
     AfterThing,
     AfterGap,
     // In a group.
-    Group {
-        first: u8,
-        start: u8,
-    },
+    Group { first: u8, start: u8 },
     // An opening bracket was read.
     Bracket,
     // In the first run of a range.
-    Low {
-        inside: bool,
-        start: u8,
-    },
+    Low { inside: bool, start: u8 },
     // In the second run of a range.
-    High {
-        inside: bool,
-        low: Run,
-        start: u8,
-    },
+    High { inside: bool, low: Run, start: u8 },
 }
 
 impl Context {
@@ -60,7 +50,7 @@ impl Context {
         ensures { result ≡ context_behind part }
     {
         match part {
-            Part::Gap(_) => Context::AfterGap,
+            Part::Gap { .. } => Context::AfterGap,
             _ => Context::AfterThing,
         }
     }

@@ -93,7 +93,7 @@ pub(crate) fn least_end<R: Reading>(
         return None;
     }
     let codes = fragment.codes.as_slice();
-    let mut place = starts.first_place(u64::from(fragment.lead))?;
+    let mut place = starts.first_place(fragment.lead)?;
     let mut last = starts.last_place();
     let mut best = None;
     let mut opening = Opening::of(&sequence.pattern, fragment);

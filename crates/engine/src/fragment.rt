@@ -134,9 +134,9 @@ fn cut_first(parts: &[PlacedPart]) -> Cut
     let mut between: u32 = 0;
     for (i, placed) in parts.iter().enumerate() {
         match placed.part {
-            Part::Gap(gap) => {
-                endless |= gap.most.is_none();
-                between += u32::from(gap.least);
+            Part::Gap { least, most } => {
+                endless |= most.is_none();
+                between += u32::from(least);
             }
             _ if endless => {
                 let next = Some((i, between));

@@ -8,8 +8,7 @@ ghost use Rattle.patterns.specs.Grammar.{Digits, followed_by};
 ghost use Rattle.patterns.specs.Reader.{digits, leads, least as lower, most as upper};
 
 use crate::cursor::Cursor;
-use crate::pattern::Gap;
-use crate::token::{Class, Expects, Punctuation, Token};
+use crate::token::{Class, Expects, Gap, Punctuation, Token};
 use kinds::kind::Kind;
 
 // Where a text cannot be read on.

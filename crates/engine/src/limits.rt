@@ -7,7 +7,7 @@ ghost use Rattle.engine.specs.Tallies.{single, joined, initial, closed, with_gap
 ghost use Rattle.patterns.specs.Fragments.{fragments, before, wrong};
 
 use crate::cause::Cause;
-use crate::pattern::{Gap, Part, Pattern, PlacedPart};
+use crate::pattern::{Part, Pattern, PlacedPart};
 use crate::smaller::smaller;
 use patterns::Direction;
 
@@ -62,12 +62,10 @@ impl Pattern {
                 high,
                 ..
             } => !comes_before(direction, self.run_codes(low), self.run_codes(high)),
-            Part::Gap(
-                Gap {
-                    least,
-                    most: Some(most),
-                },
-            ) => most < least,
+            Part::Gap {
+                least,
+                most: Some(most),
+            } => most < least,
             _ => false,
         }
     }
@@ -102,7 +100,7 @@ impl Stretch {
             start: Some(part.place),
             span: u32::from(pattern.extent(part.part).span),
             literal: matches!(part.part, Part::Literal(_)),
-            endless: matches!(part.part, Part::Gap(Gap { most: None, .. })),
+            endless: matches!(part.part, Part::Gap { most: None, .. }),
         }
     }
 
@@ -191,7 +189,7 @@ impl Tally {
         };
         let item = Stretch::of(pattern, part);
         match part.part {
-            Part::Gap(_) => judged.with_gap(item),
+            Part::Gap { .. } => judged.with_gap(item),
             _ => judged.with_thing(item),
         }
     }

@@ -58,7 +58,7 @@ impl Turn for Part {
                 high: high.turned(total),
             },
             Part::Other(run) => Part::Other(run.turned(total)),
-            Part::Literal(_) | Part::Any | Part::Group { .. } | Part::Gap(_) => self,
+            Part::Literal(_) | Part::Any | Part::Group { .. } | Part::Gap { .. } => self,
         }
     }
 }

@@ -10,7 +10,9 @@ use patterns::Direction;
 // A pattern text has at most 200 characters. A code in a list takes two of them, a run three, as it has a code and stands beside a
 // bar, a bracket or a colon, and the first item takes two.
 pub(crate) const MOST_CODES: usize = 100;
+
 pub(crate) const MOST_RUNS: usize = 66;
+
 pub(crate) const MOST_PARTS: usize = 199;
 
 /// A run of literals, as a part of a list of codes.
@@ -18,13 +20,6 @@ pub(crate) const MOST_PARTS: usize = 199;
 pub struct Run {
     pub start: u8,
     pub len: u8,
-}
-
-/// A gap: its least length, and its greatest where it has one.
-#[derive(Clone, Copy, PartialEq, Eq, Debug)]
-pub struct Gap {
-    pub least: u16,
-    pub most: Option<u16>,
 }
 
 /// An item of a pattern. Its runs stand in the pattern's list of codes; a group has the runs from `first` on, `count` of them.
@@ -44,7 +39,11 @@ pub enum Part {
         high: Run,
     },
     Other(Run),
-    Gap(Gap),
+    // Its least length, and its greatest where it has one.
+    Gap {
+        least: u16,
+        most: Option<u16>,
+    },
 }
 
 /// An item with the place in the text where it begins.
@@ -176,9 +175,9 @@ impl Pattern {
                 least: u16::from(run.len),
                 span: u16::from(run.len),
             },
-            Part::Gap(gap) => Extent {
-                least: gap.least,
-                span: gap.most.unwrap_or(0),
+            Part::Gap { least, most } => Extent {
+                least,
+                span: most.unwrap_or(0),
             },
         }
     }

@@ -12,7 +12,7 @@ ghost use Rattle.patterns.specs.Patterns.{any, compared, gap as spaced, group, l
 ghost use Rattle.patterns.specs.Search.{stretch};
 ghost use Rattle.patterns.specs.declared.direction.Direction.TheVariants.{FirstOn};
 
-use crate::pattern::{Gap, Part, Pattern, Run};
+use crate::pattern::{Part, Pattern, Run};
 use kinds::kind::Kind;
 use patterns::Direction;
 use kinds::reading::Reading;
@@ -25,11 +25,11 @@ const LAST: usize = 1023;
 // The row and the reading stay apart: of a struct of both, each step would have to say too that the reading stays as it is.
 
 // Moves a row on behind a gap.
-fn pass_gap<R: Reading>(gap: Gap, row: &mut Row, reading: &R)
-    ensures { Stepped (spaced gap.least gap.most) row.old (codes_of R.Element.alphabet (R.elements reading.now)) row.new }
+fn pass_gap<R: Reading>(least: u16, most: Option<u16>, row: &mut Row, reading: &R)
+    ensures { Stepped (spaced least most) row.old (codes_of R.Element.alphabet (R.elements reading.now)) row.new }
 {
-    let most = gap.most.map_or(LAST, usize::from);
-    row.widen(usize::from(gap.least), most);
+    let most = most.map_or(LAST, usize::from);
+    row.widen(usize::from(least), most);
     row.cut(reading.len() as usize);
 }
 
@@ -193,7 +193,7 @@ fn pass_part<R: Reading>(pattern: &Pattern, part: Part, mut row: Row, reading: &
             range.pass(&mut row, reading);
         }
         Part::Other(run) => RunRange::of_one(false, pattern.run_codes(run)).pass(&mut row, reading),
-        Part::Gap(gap) => pass_gap(gap, &mut row, reading),
+        Part::Gap { least, most } => pass_gap(least, most, &mut row, reading),
     }
     row
 }

@@ -9,7 +9,6 @@ use crate::lexer::Lexer;
 use crate::pattern::{Pattern, PlacedPart};
 use crate::step::{Step, advance};
 use kinds::kind::Kind;
-use std::alloc::AllocError;
 
 // The refusal of a text at a place.
 fn refusal(sequence: u8, place: usize) -> Failure
@@ -46,10 +45,13 @@ pub fn read<K: Kind>(sequence: u8, text: &[u8]) -> Result<Pattern, Failure>
             Step::Stuck => return Err(refusal(sequence, place)),
             Step::Within(later) => context = later,
             Step::Complete(part) => {
-                let place = u8::try_from(from).map_err(|_| AllocError)?;
                 if pattern.parts.is_full() {
                     return Err(Failure::Memory);
                 }
+                if from > 255 {
+                    return Err(Failure::Memory);
+                }
+                let place = from as u8;
                 pattern.push_part(PlacedPart { place, part });
                 context = Context::behind(part);
                 from = lexer.place();

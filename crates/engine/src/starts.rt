@@ -32,10 +32,10 @@ impl Starts {
     }
 
     // The first place where the anchor of a placement can stand, `lead` elements behind its start, if a reading can have it.
-    pub(crate) fn first_place(self, lead: u64) -> Option<u32>
+    pub(crate) fn first_place(self, lead: u32) -> Option<u32>
         ensures { MatchOption result (4294967295 < self.from + lead) (λ place. place ≡ self.from + lead) }
     {
-        place_behind(self.from, lead)
+        place_behind(self.from, u64::from(lead))
     }
 
     // The last place where the anchor of a placement can stand in a reading.

@@ -11,7 +11,7 @@ ghost use Rattle.patterns.specs.Reader.{between as between_items, next as next_b
 
 use crate::context::Context;
 use crate::pattern::{Part, Pattern, Run};
-use crate::token::{Punctuation, Token};
+use crate::token::{Gap, Punctuation, Token};
 use patterns::Direction;
 use std::alloc::AllocError;
 
@@ -203,6 +203,6 @@ pub(crate) fn advance(
         Token::Literal { code, .. } => literal(pattern, context, code),
         Token::Any => Ok(Step::Complete(Part::Any)),
         Token::Mark(mark) => punctuation(pattern, context, mark),
-        Token::Gap(gap) => Ok(Step::Complete(Part::Gap(gap))),
+        Token::Gap(Gap { least, most }) => Ok(Step::Complete(Part::Gap { least, most })),
     }
 }

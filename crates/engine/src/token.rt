@@ -1,5 +1,4 @@
 // The tokens of a pattern text, and what a reader expects next.
-use crate::pattern::Gap;
 
 // A single character that shapes a thing: ( | ) [ ! : ]
 #[derive(Clone, Copy, PartialEq, Eq, Debug)]
@@ -11,6 +10,13 @@ pub enum Punctuation {
     Except,
     Colon,
     CloseRange,
+}
+
+// A gap: its least length, and its greatest where it has one.
+#[derive(Clone, Copy, PartialEq, Eq, Debug)]
+pub struct Gap {
+    pub least: u16,
+    pub most: Option<u16>,
 }
 
 // A token. A literal holds the part of the text that is its pair, the place where it stands, and the code of the element

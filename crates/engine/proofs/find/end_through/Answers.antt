@@ -22,7 +22,7 @@ returns-then-not-reached g c a sides stands =
     let before = subst (λ ys. Reached (part_of (held mirror) m n) ys c.reach-before.result) (codes_before alphabet elements c.args.place) c.reach-before.ensures in
     through_no_start (held pattern) (held mirror) c.args.fragment.now a sides xs c.args.place stands c.args.starts
     c.reach-before.result m n (omega arith) (omega arith) before
-    (λ s. both_ways _ c.if-not-reached.true (c.reached.ensures.1 (subst (λ p. Start c.reach-before.result p c.args.starts) (sym c.from.ensures) s)))
+    (λ s. both_ways _ c.if-not-reached.true (c.reached.ensures.1 (subst (λ p. Start c.reach-before.result p c.args.starts) (sym c.from-3.ensures) s)))
 
 pub returns : goal.returns
 returns g c a sides stands =
@@ -36,12 +36,14 @@ returns g c a sides stands =
     let n = c.saturating_sub-first.result in
     let size : length (held mirror) ≡ length mirror.parts.items = length-map mirror.parts.items (placed_of mirror.codes.items mirror.runs.items) in
     let before = subst (λ ys. Reached (part_of (held mirror) m n) ys c.reach-before.result) (codes_before alphabet elements c.args.place) c.reach-before.ensures in
-    let behind = subst (λ ys. Reached (part_of (held pattern) (f.anchor + length f.codes.items) f.end) ys c.reach-behind.result) (codes_behind alphabet elements c.in_ok-base.base) (subst (λ n. Reached (part_of (held pattern) (f.anchor + n) f.end) (codes_of alphabet (drop c.in_ok-base.base elements)) c.reach-behind.result) c.len-len.ensures c.reach-behind.ensures) in
+    let from : c.from-5.result + c.len-len.result ≡ f.anchor + length f.codes.items = (λ k. c.from-5.ensures k + c.len-len.ensures.value k) in
+    let reached = subst (λ is. Reached is (codes_of alphabet (drop c.in_ok-base.base elements)) c.reach-behind.result) (λ k. part_of (held pattern) (from k) (c.from-6.ensures k)) c.reach-behind.ensures in
+    let behind = subst (λ ys. Reached (part_of (held pattern) (f.anchor + length f.codes.items) f.end) ys c.reach-behind.result) (codes_behind alphabet elements c.in_ok-base.base) reached in
     let end = c.in_ok-base.ensures in
     through_first (held pattern) (held mirror) f a sides xs c.args.place stands c.args.starts
     c.reach-before.result c.reach-behind.result m n c.in_ok-base.base (omega arith) (omega arith) (omega arith)
     before
-    (subst (λ p. Start c.reach-before.result p c.args.starts) c.from.ensures (c.reached.ensures.0 c.if-not-reached.false))
+    (subst (λ p. Start c.reach-before.result p c.args.starts) c.from-3.ensures (c.reached.ensures.0 c.if-not-reached.false))
     behind c.first_from.result _ c.first_from.ensures (on_some _ _ _ c.first_from.result (λ k h. search (rules, tests)) c.map.ensures.cases)
 
 pub returns-in_err-base : goal.returns-in_err-base

@@ -55,7 +55,7 @@ loop-fit-preserved g c =
     let starts = c.args.starts in
     let xs = codes_of g.R.Element.Kind.alphabet (g.R.Reading.elements c.args.reading.now) in
     let codes = c.as_slice-codes.ensures.value in
-    let long : length c.as_slice-codes.result.now ≡ length fragment.codes.items = ap length codes ∙ sym fragment.codes.ok.0 in
+    let long : length c.as_slice-codes.result.now ≡ length fragment.codes.items = ap length codes in
     let known = c.loop-fit.invariant.1 in
     let on = c.in-Some.ensures.on in (
       λ f s.

@@ -5,4 +5,4 @@ use Rattle.engine.proofs.fragment.literal_codes.Given as goal
 -- the codes so far and those of the parts that are left are all, no more than parts were passed
 abbrev pub invariant-loop-placed : goal.invariant-loop-placed
 invariant-loop-placed l =
-    (l.codes.items ++ part_codes (drop l.placed-index l.placed-items) ≡ part_codes l.placed-items) × (length l.codes.items ≤ l.placed-index)
+    (l.codes.items ++ part_codes (drop l.placed-index l.parts) ≡ part_codes l.parts) × (length l.codes.items ≤ l.placed-index)

@@ -10,7 +10,7 @@ returns g c =
     let elements = g.R.Reading.elements c.args.reading.now in
     let alphabet = g.R.Element.Kind.alphabet in
     let last = c.map_or-most.result in
-    let furthest : Furthest c.args.gap.most last = search rules in
-    gap_step c.args.row.now c.widen.new.self c.cut.new.self (codes_of alphabet elements) c.args.gap.least last c.len.result
+    let furthest : Furthest c.args.most last = search rules in
+    gap_step c.args.row.now c.widen.new.self c.cut.new.self (codes_of alphabet elements) c.args.least last c.len.result
     (λ j. c.widen.ensures j ∙ ap (λ n. ltb j 1024 && some_distance c.args.row.now n last j) c.from.ensures)
-    c.cut.ensures (length-map elements alphabet.code ∙ sym c.len.ensures) c.args.gap.most furthest
+    c.cut.ensures (length-map elements alphabet.code ∙ sym c.len.ensures) c.args.most furthest

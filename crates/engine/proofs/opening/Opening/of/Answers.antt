@@ -15,20 +15,20 @@ far_of-requires c =
     let pattern = c.args.pattern.now in
     let codes = pattern.codes.items in
     let runs = pattern.runs.items in
-    let first = c.args.fragment.now.first in
+    let first = c.from.result in
     let slice = c.deref.result.now in
-    let within = subst (HasParts pattern) (sym c.deref.ensures.value) pattern.parts_within in
-    parts_take_within codes runs (c.args.fragment.now.anchor - first) (drop first slice) (parts_drop_within codes runs first slice within)
+    let within = subst (HasParts pattern) (sym c.deref.ensures.0) pattern.parts_within in
+    parts_take_within codes runs (c.from-2.result - first) (drop first slice) (parts_drop_within codes runs first slice within)
 
 pub returns-clause-opening : goal.returns-clause-opening
 returns-clause-opening c =
     let pattern = c.args.pattern.now in
     let codes = pattern.codes.items in
     let runs = pattern.runs.items in
-    let first = c.args.fragment.now.first in
-    let n = c.args.fragment.now.anchor - first in
-    let front : items_in pattern (take n (drop first c.deref.result.now)) ≡ part_of (held pattern) first c.args.fragment.now.anchor =
-    ap (λ ps. items_in pattern (take n (drop first ps))) c.deref.ensures.value ∙ ap bodies (items_between codes runs pattern.parts.items first n) in
+    let first = c.from.result in
+    let n = c.from-2.result - first in
+    let front : items_in pattern (take n (drop first c.deref.result.now)) ≡ part_of (held pattern) c.args.fragment.now.first c.args.fragment.now.anchor =
+    ap (λ ps. items_in pattern (take n (drop first ps))) c.deref.ensures.0 ∙ ap bodies (items_between codes runs pattern.parts.items first n) ∙ (λ k. part_of (held pattern) (c.from.ensures k) (c.from-2.ensures k)) in
     record {
       code = c.first_code.ensures pattern ∙ ap opening_code front;
       far = c.far_of.ensures ∙ ap (λ is. min 1023 (sum_span is)) front;

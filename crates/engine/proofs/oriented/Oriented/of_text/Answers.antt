@@ -7,7 +7,7 @@ use Rattle.engine.proofs.oriented.Oriented.of_text.Goals as goal
 pub invariant_of-result : goal.invariant_of-result
 invariant_of-result g c =
     let items = held c.in_order-pattern.result in
-    let mirrors = c.mirrored-mirror.ensures ∙ ap mirrored_placed c.in_ok-copied.ensures in
+    let mirrors = c.mirrored-mirror.ensures in
     record { accepted = ∣ compiled_accepted g.K.Kind.alphabet c.args.text.now c.args.reference (held c.in_ok-of_text.field-0) items (held c.mirrored-mirror.result) c.in_ok-of_text.ensures c.in_order-pattern.ensures mirrors ∣₁ }
 
 pub returns : goal.returns

@@ -1,12 +1,12 @@
-use Rattle.std.proofs.Common.{◌-◌, take, drop, sym, ap, subst}
+use Rattle.std.proofs.Common.{◌-◌, take, drop, sym, ap, subst, arith, length-take}
 use Rattle.engine.specs.Compiling.{Shifts}
 use Rattle.engine.specs.Parts.{HasParts}
 use Rattle.engine.proofs.Assembling.{assembled}
 use Rattle.engine.proofs.Lengths.{parts_take_within, parts_drop_within}
 use Rattle.engine.proofs.pattern.Pattern.fragment_at.Goals as goal
 
-pub least_of-requires : goal.least_of-requires
-least_of-requires c =
+pub least_of-requires-clause-inside : goal.least_of-requires-clause-inside
+least_of-requires-clause-inside c =
     let codes = c.args.self.now.codes.items in
     let runs = c.args.self.now.runs.items in
     let first = c.args.first in
@@ -25,5 +25,5 @@ returns c =
     assembled codes runs c.args.self.now.parts.items c.args.reference first end c.requires.ordered c.requires.inside
     (take (end - first) (drop first slice)) (ap (λ ps. take (end - first) (drop first ps)) c.deref.ensures.0)
     c.anchor-start.result.start c.anchor-start.result.len (c.anchor-start.ensures.anchored codes runs)
-    c.args.gap c.in_ok-lead.field-0 c.in_ok-codes.codes c.in_ok-shifts.shifts c.in_ok-lead.ensures c.in_ok-codes.ensures
-    (subst (Shifts c.in_ok-shifts.shifts) c.as_slice.ensures.value c.in_ok-shifts.ensures)
+    c.args.gap c.least_of.result c.literal_codes-codes.result c.shifts-shifts.result c.least_of.ensures c.literal_codes-codes.ensures
+    (subst (Shifts c.shifts-shifts.result) c.as_slice.ensures.value c.shifts-shifts.ensures)

@@ -1,5 +1,5 @@
 -- What the compiler makes can be searched for, and its search decides as the rule does.
-use Rattle.std.proofs.Common.{◌≡◌, ℕ, Bool, true, false, cond, List, [], ◌∷◌, ◌++◌, reverse, Some, None, Ok, Err, Decides, Option, Result, sym, refl, ap, ◌∙◌, subst, inl, inr, arith}
+use Rattle.std.proofs.Common.{◌≡◌, ℕ, Bool, true, false, cond, ◌≤◌, List, [], ◌∷◌, ◌++◌, length, reverse, Some, None, Ok, Err, Decides, Option, Result, sym, refl, ap, ◌∙◌, subst, inl, inr, arith}
 use mathlib.Core.Bool.{Bool-set}
 use mathlib.Core.Logic.{∥∥₁_elim}
 use Rattle.std.specs.List.{AllByRecursion as All}
@@ -19,7 +19,7 @@ use Rattle.kinds.proofs.Backs.{mirrored_placed_twice, limits_mirrored, literals_
 use Rattle.kinds.proofs.Decisions.{hits_exactly}
 use Rattle.kinds.proofs.Searches.{found_exactly, cut_gap, cut_thing, cut_held}
 use Rattle.kinds.proofs.Sound as reader
-use Rattle.engine.specs.Compiled.{Hold}
+use Rattle.engine.specs.Compiled.{literal_codes, Hold}
 use Rattle.engine.specs.Limits.{refusal}
 use Rattle.engine.specs.Reading.{held}
 use Rattle.engine.specs.Searched.{Searched, Sound}
@@ -28,6 +28,7 @@ use Rattle.engine.specs.declared.cause.Cause.{Cause}
 use Rattle.engine.specs.declared.cause.Cause.TheVariants.{Grammar, Limit, NoLiteral}
 use Rattle.engine.specs.declared.fragment.Fragment.{Fragment}
 use Rattle.engine.specs.declared.sequence.Sequence.{Sequence}
+use Rattle.engine.proofs.Literals.{literals_said, literals_oriented}
 
 -- What the compiler makes.
 
@@ -124,6 +125,14 @@ pub compiled_within : {E : Type 0} (a : Alphabet E) (t : List ℕ) (r : Referenc
 compiled_within a t r qs items read order =
     let (ordered, accepted) = compiled_text a t r qs items read order in
     (searchable r items 0 ordered accepted).0
+
+-- and of a text of 200 characters has at most 100 literals
+pub compiled_few : {E : Type 0} (a : Alphabet E) (t : List ℕ) (r : Reference) (qs items : List Placed) → outcome a t ≡ Ok qs → items ≡ oriented r qs → length t ≤ 200
+    → length (literal_codes (bodies items)) ≤ 100
+compiled_few a t r qs items read order short =
+    let said = literals_said a 0 qs t (reader.sound a t qs (outcome_items a t qs read).0).1 in
+    let same = ap (λ l. length (literal_codes (bodies l))) order ∙ literals_oriented r qs in
+    omega arith
 
 -- compiled fragments that can be searched for, one for one
 abbrev pub AllSearched : Reference → List Placed → List Placed → List Fragment → List spec.Fragment → Type 0

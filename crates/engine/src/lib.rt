@@ -13,6 +13,7 @@ pub mod limits;
 pub mod mirror;
 mod opening;
 pub mod pattern;
+pub mod pattern_text;
 mod reach;
 pub mod reader;
 pub mod scan;

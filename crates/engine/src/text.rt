@@ -11,6 +11,7 @@ ghost use Rattle.kinds.specs.Grammar.{Placed};
 use crate::fault::{Failure, Fault};
 use crate::fragment::Fragment;
 use crate::pattern::Pattern;
+use crate::pattern_text::PatternText;
 use crate::reader::read;
 use crate::search::hits;
 use crate::sequence::Sequence;
@@ -19,8 +20,8 @@ use kinds::pattern::{Offsets, Reference};
 use kinds::reading::Reading;
 
 // A text's items, or its refusal.
-pub fn checked<K: Kind>(sequence: u8, text: &[u8]) -> Result<Pattern, Failure>
-    ensures { Checked K.alphabet text.now sequence result }
+pub fn checked<K: Kind>(sequence: u8, text: PatternText) -> Result<Pattern, Failure>
+    ensures { Checked K.alphabet text.entry.characters.now sequence result }
 {
     let pattern = read::<K>(sequence, text)?;
     match pattern.refusal() {
@@ -44,8 +45,12 @@ fn in_order(pattern: Pattern, reference: Reference) -> Pattern
 }
 
 // A text compiled for its search, or its refusal.
-pub fn compiled<K: Kind>(number: u8, offsets: Offsets, text: &[u8]) -> Result<Sequence, Failure>
-    ensures { Compiled K.alphabet text.now number offsets.reference offsets.lo offsets.hi result }
+pub fn compiled<K: Kind>(
+    number: u8,
+    offsets: Offsets,
+    text: PatternText,
+) -> Result<Sequence, Failure>
+    ensures { Compiled K.alphabet text.entry.characters.now number offsets.reference offsets.lo offsets.hi result }
 {
     let Offsets { reference, lo, .. } = offsets;
     let pattern = in_order(checked::<K>(number, text)?, reference);
@@ -77,11 +82,11 @@ fn numbers_of(fragments: &[Fragment], number: usize, index: u8) -> Option<(u32, 
 pub fn show<K: Kind>(
     reference: Reference,
     lo: u16,
-    text: &[u8],
+    text: PatternText,
     number: usize,
     index: u8,
 ) -> Result<Option<(u32, u32, usize, u8)>, Failure>
-    ensures { Shown K.alphabet text.now 1 reference lo number index result }
+    ensures { Shown K.alphabet text.entry.characters.now 1 reference lo number index result }
 {
     let offsets = Offsets {
         reference,
@@ -93,8 +98,8 @@ pub fn show<K: Kind>(
 }
 
 // Whether a text, compiled, hits a reading; or the text's refusal.
-pub fn hit<R: Reading>(offsets: Offsets, text: &[u8], reading: &R) -> Result<bool, Failure>
-    ensures { Hit R.Element.alphabet text.now 1 offsets.reference offsets.lo offsets.hi (codes_of R.Element.alphabet (R.elements reading.now)) result }
+pub fn hit<R: Reading>(offsets: Offsets, text: PatternText, reading: &R) -> Result<bool, Failure>
+    ensures { Hit R.Element.alphabet text.entry.characters.now 1 offsets.reference offsets.lo offsets.hi (codes_of R.Element.alphabet (R.elements reading.now)) result }
 {
     let sequence = compiled::<R::Element>(1, offsets, text)?;
     Ok(hits(&sequence, reading))

@@ -11,7 +11,7 @@ returns g c =
     let s = c.in_ok-sequence.sequence in
     let from = c.in_ok-sequence.ensures in
     let xs = codes_of a (g.R.Reading.elements c.args.reading.now) in
-    let items = said_items a c.args.text.now c.args.offsets.reference c.args.offsets.lo c.args.offsets.hi s from in (
+    let items = said_items a c.args.text.characters.now c.args.offsets.reference c.args.offsets.lo c.args.offsets.hi s from in (
       from.items,
       from.read,
       c.hits.ensures.decision ∙ (λ k. hits (from.reference k) (from.offsets.0 k) (from.offsets.1 k) (bodies (items k)) xs),

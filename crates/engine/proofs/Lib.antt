@@ -15,6 +15,7 @@ pub mod Growth
 pub mod Items
 pub mod Least
 pub mod Lengths
+pub mod Literals
 pub mod Machine
 pub mod Mirrored
 pub mod Openings

@@ -1,6 +1,7 @@
 -- The search for fragments, one behind the other, by the numbers of the compiled ones.
 use Rattle.std.proofs.Common.{◌≡◌, ℕ, zero, suc, ◌+◌, ◌^◌, ◌<◌, ◌≤◌, List, [], ◌∷◌, ◌++◌, map, reverse, length, drop, Some, None, Option, zero-add, sym, refl, ap, ◌∙◌, subst, ⊎_elim, arith}
 use native.Mathlib.Nat.{ℕ_set}
+use Rattle.std.proofs.Math.Bridge.{le_prop}
 use Rattle.std.proofs.Props.{props}
 use mathlib.Core.List.{map-append, reverse-cons}
 use mathlib.Core.Logic.{∥∥₁_elim}
@@ -12,6 +13,7 @@ use Rattle.patterns.specs.Grammar.{Placed}
 use Rattle.patterns.specs.Patterns.{Item}
 use Rattle.patterns.specs.Search.{least_end, search_end}
 use Rattle.patterns.proofs.Searches.{least_end_is, ends_least}
+use Rattle.engine.specs.Compiled.{literal_codes}
 use Rattle.engine.specs.Reading.{held}
 use Rattle.engine.specs.Said.{HoldsAt, Searches, parts}
 use Rattle.engine.specs.declared.fragment.Fragment.{Fragment}
@@ -26,6 +28,10 @@ option_nat_set b c = hlevel (props, ℕ_set)
 -- the items of a pattern in the order of its search are within the limits
 pub limits_of : (s : Oriented) → limit_place (held s.pattern) ≡ None
 limits_of s = ∥∥₁_elim s.accepted (option_nat_set _ _) (λ k. (within s k).limits)
+
+-- and they have at most 100 literals
+pub literals_of : (s : Oriented) → length (literal_codes (bodies (held s.pattern))) ≤ 100
+literals_of s = ∥∥₁_elim s.accepted le_prop (λ k. k.few)
 
 -- a list reversed before each item is mapped, or after
 pub map_reverse : {X Y : Type 0} (f : X → Y) (xs : List X) → map f (reverse xs) ≡ reverse (map f xs)

@@ -18,7 +18,7 @@ use Rattle.patterns.proofs.Backs.{bodies_mirrored, mirrored_placed_twice, limits
 use Rattle.patterns.proofs.Mirrors.{mirrored_alike}
 use Rattle.patterns.proofs.Searches.{front_hits, anywhere_hits, kept_none, fragments_none, cut_gap, cut_thing, cut_held}
 use Rattle.patterns.proofs.Sound as reader
-use Rattle.engine.specs.Compiled.{Holds}
+use Rattle.engine.specs.Compiled.{literal_codes}
 use Rattle.engine.specs.Limits.{refusal}
 use Rattle.engine.specs.Reading.{held}
 use Rattle.engine.specs.Said.{said, parts, HoldsAt, Searches}
@@ -28,6 +28,7 @@ use Rattle.engine.specs.declared.cause.Cause.{Cause}
 use Rattle.engine.specs.declared.cause.Cause.TheVariants.{Grammar, Limit, NoLiteral}
 use Rattle.engine.specs.declared.fragment.Fragment.{Fragment}
 use Rattle.engine.specs.declared.oriented.Oriented.{Oriented}
+use Rattle.engine.proofs.Literals.{literals_said, literals_oriented}
 
 -- What the compiler makes.
 
@@ -53,14 +54,17 @@ oriented_twice Anywhere qs = refl
 
 -- what is compiled from a text can be searched for
 pub compiled_accepted : {E : Type 0} (a : Alphabet E) (t : List ℕ) (r : Reference) (qs items mirror : List Placed)
-    → outcome a t ≡ Ok qs → items ≡ oriented r qs → mirror ≡ mirrored_placed items → Accepted r items mirror
-compiled_accepted a t r qs items mirror read order mirrors =
+    → outcome a t ≡ Ok qs → items ≡ oriented r qs → mirror ≡ mirrored_placed items → length t ≤ 200 → Accepted r items mirror
+compiled_accepted a t r qs items mirror read order mirrors short =
     let (text, accepted) = outcome_items a t qs read in
+    let literals = literals_said a 0 qs t (reader.sound a t qs text).1 in
+    let same = ap (λ l. length (literal_codes (bodies l))) order ∙ literals_oriented r qs in
     let back : oriented r items ≡ qs = ap (oriented r) order ∙ oriented_twice r qs in
     record {
       ordered = subst (Ordered start) (sym back) (reader.sound a t qs text).0;
       accepted = ap refusal back ∙ accepted;
       mirrors = mirrors;
+      few = omega arith;
     }
 
 -- What the search relies on.

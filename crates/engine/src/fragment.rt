@@ -1,13 +1,13 @@
 // Compiles a pattern: its fragments, their anchors, and the numbers of their search.
 ghost use Rattle.std.specs.Prelude.{◌≡◌, ◌+◌, ◌*◌, ◌-◌, ◌<◌, ◌≤◌, None, length, take, drop, if◌then◌else◌, slice_index};
-ghost use Rattle.engine.specs.Compiled.{Holds, Hold};
+ghost use Rattle.engine.specs.Compiled.{literal_codes as literals_of, Holds, Hold};
 ghost use Rattle.engine.specs.Compiling.{part_codes, replaces, AnchorsParts, CutsParts, Shifts};
 ghost use Rattle.engine.specs.Reading.{held};
 ghost use Rattle.engine.specs.Parts.{items_in, HasParts};
-ghost use Rattle.patterns.specs.Fragments.{limit_place, sum_least, fragments as fragments_from};
+ghost use Rattle.patterns.specs.Fragments.{bodies, limit_place, sum_least, fragments as fragments_from};
 
 use crate::limits::MOST_FRAGMENTS;
-use crate::pattern::{MOST_PARTS, Part, Pattern, PlacedPart};
+use crate::pattern::{MOST_CODES, MOST_PARTS, Part, Pattern, PlacedPart};
 use arrayvec::ArrayVec;
 use patterns::Reference;
 
@@ -22,7 +22,7 @@ pub struct Fragment {
     pub(crate) end: u8,
     // The anchor: the literals from `anchor` on, and their codes.
     pub(crate) anchor: u8,
-    pub(crate) codes: ArrayVec<u16, MOST_PARTS>,
+    pub(crate) codes: ArrayVec<u16, MOST_CODES>,
     // The least number of elements before the fragment: from the one before it on, or from where the search begins.
     pub(crate) gap: u32,
     // The least number of elements from the fragment's start to its anchor's.
@@ -63,7 +63,7 @@ impl Fragment {
 
 // The shift of each index: how far from behind the codes the last of them stands that has the index.
 fn shifts(codes: &[u16]) -> [u8; INDICES]
-    requires { length codes.now ≤ MOST_PARTS }
+    requires { length codes.now ≤ MOST_CODES }
     ensures { Shifts result codes.now }
 {
     let longest = codes.len() as u8 + 1;
@@ -152,8 +152,8 @@ fn cut_first(parts: &[PlacedPart]) -> Cut
 }
 
 // The codes of the literals among parts.
-fn literal_codes(parts: &[PlacedPart]) -> ArrayVec<u16, MOST_PARTS>
-    requires { length parts.now ≤ MOST_PARTS }
+fn literal_codes(parts: &[PlacedPart]) -> ArrayVec<u16, MOST_CODES>
+    requires { length (part_codes parts.now) ≤ MOST_CODES }
     ensures { result.items ≡ part_codes parts.now }
 {
     let mut codes = ArrayVec::new();
@@ -183,6 +183,7 @@ impl Pattern {
     fn fragment_at(&self, reference: Reference, first: usize, end: usize, gap: u32) -> Fragment
         requires ordered { first ≤ end }
         requires inside { end ≤ length self.now.parts.items }
+        requires few { length (literals_of (bodies (held self.now))) ≤ MOST_CODES }
         ensures { Holds reference (held self.now) result (record { break = gap; body = take (end - first) (drop first (held self.now)) }) }
     {
         let body = &self.parts[first..end];
@@ -206,7 +207,8 @@ impl Pattern {
         reference: Reference,
         lo: u16,
     ) -> ArrayVec<Fragment, MOST_FRAGMENTS>
-        requires { limit_place (held self.now) ≡ None }
+        requires within { limit_place (held self.now) ≡ None }
+        requires few { length (literals_of (bodies (held self.now))) ≤ MOST_CODES }
         ensures { Hold reference (held self.now) result.items (fragments_from lo (held self.now)) }
     {
         let parts = self.parts.as_slice();

@@ -14,6 +14,7 @@ pub mod mirror;
 mod opening;
 mod oriented;
 pub mod pattern;
+pub mod pattern_text;
 mod reach;
 pub mod reader;
 pub mod scan;

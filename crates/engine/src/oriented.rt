@@ -4,6 +4,7 @@ ghost use Rattle.engine.specs.Searched.{Accepted};
 
 use crate::fault::{Failure, Fault};
 use crate::pattern::Pattern;
+use crate::pattern_text::PatternText;
 use crate::reader::read;
 use kinds::kind::Kind;
 use patterns::Reference;
@@ -24,8 +25,8 @@ impl Pattern {
     ghost use Rattle.patterns.specs.Fragments.{oriented};
 
     // A text's items, or its refusal.
-    fn of_text<K: Kind>(sequence: u8, text: &[u8]) -> Result<Pattern, Failure>
-        ensures { Checked K.alphabet text.now sequence result }
+    fn of_text<K: Kind>(sequence: u8, text: PatternText) -> Result<Pattern, Failure>
+        ensures { Checked K.alphabet text.entry.characters.now sequence result }
     {
         let pattern = read::<K>(sequence, text)?;
         match pattern.refusal() {
@@ -57,9 +58,9 @@ impl Oriented {
     pub(crate) fn of_text<K: Kind>(
         number: u8,
         reference: Reference,
-        text: &[u8],
+        text: PatternText,
     ) -> Result<Oriented, Failure>
-        ensures { Compiled K.alphabet text.now number reference (said_if result) }
+        ensures { Compiled K.alphabet text.entry.characters.now number reference (said_if result) }
     {
         let pattern = Pattern::of_text::<K>(number, text)?.in_order(reference);
         let mirror = pattern.mirrored();

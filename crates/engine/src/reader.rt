@@ -7,6 +7,7 @@ use crate::context::Context;
 use crate::fault::{Failure, Fault};
 use crate::lexer::Lexer;
 use crate::pattern::{Pattern, PlacedPart};
+use crate::pattern_text::PatternText;
 use crate::step::{Step, advance};
 use kinds::kind::Kind;
 
@@ -22,11 +23,11 @@ fn refusal(sequence: u8, place: usize) -> Failure
 }
 
 // Reads a pattern text into its items. The number of its sequence goes with it for a refusal alone.
-pub fn read<K: Kind>(sequence: u8, text: &[u8]) -> Result<Pattern, Failure>
-    ensures { Read K.alphabet text.now sequence result }
+pub fn read<K: Kind>(sequence: u8, text: PatternText) -> Result<Pattern, Failure>
+    ensures { Read K.alphabet text.entry.characters.now sequence result }
 {
     let mut pattern = Pattern::new();
-    let mut lexer = Lexer::new(text);
+    let mut lexer = Lexer::new(text.characters);
     let mut context = Context::Start;
     let mut from = 0;
     loop {

@@ -8,6 +8,7 @@ use crate::fault::Failure;
 use crate::fragment::Fragment;
 use crate::limits::MOST_FRAGMENTS;
 use crate::oriented::Oriented;
+use crate::pattern_text::PatternText;
 use crate::search::{Fragments, found};
 use arrayvec::ArrayVec;
 use kinds::kind::Kind;
@@ -56,9 +57,9 @@ impl<K: Kind> Sequence<K> {
     pub fn compile(
         number: u8,
         reference: Reference,
-        text: &[u8],
+        text: PatternText,
     ) -> Result<Sequence<K>, Failure>
-        ensures { Compiled K.alphabet text.now number reference result }
+        ensures { Compiled K.alphabet text.entry.characters.now number reference result }
     {
         let oriented = Oriented::of_text::<K>(number, reference, text)?;
         let least = reference.least_offset();

@@ -8,7 +8,7 @@ use Rattle.engine.proofs.reader.read.Goals as goal
 use Rattle.engine.proofs.reader.read.Goals.{In-Some}
 
 -- the token that was read
-read : (g : given.Over) (c : In-Some g) → ReadsToken g.K.Kind.alphabet c.args.text.now (expects_in c.loop-next.context) c.loop-next.lexer.at.place c.in-Some.token c.next.new.self.at.place
+read : (g : given.Over) (c : In-Some g) → ReadsToken g.K.Kind.alphabet c.args.text.characters.now (expects_in c.loop-next.context) c.loop-next.lexer.at.place c.in-Some.token c.next.new.self.at.place
 read g c =
     let a = g.K.Kind.alphabet in
     let l = c.loop-next in
@@ -19,7 +19,7 @@ read g c =
 pub returns-in-Stuck : goal.returns-in-Stuck
 returns-in-Stuck g c =
     let a = g.K.Kind.alphabet in
-    let t = c.args.text.now in
+    let t = c.args.text.characters.now in
     let l = c.loop-next in
     let later = c.next.new.self.at.place in
     let refused = stuck_there a t l.pattern l.context l.from l.lexer.at.place l.invariant.2 g.met.K.Kind.lawful c.in-Some.token later (read g (goal.at.returns-in-Stuck g c).In-Some) c.advance.new.pattern c.in_ok-advance.field-0 c.in_ok-advance.ensures c.in-Stuck.is in
@@ -28,7 +28,7 @@ returns-in-Stuck g c =
 pub loop-next-preserved-in-Within : goal.loop-next-preserved-in-Within
 loop-next-preserved-in-Within g c =
     let a = g.K.Kind.alphabet in
-    let t = c.args.text.now in
+    let t = c.args.text.characters.now in
     let l = c.loop-next in
     let later = c.next.new.self.at.place in
     let after = c.advance.new.pattern in
@@ -42,7 +42,7 @@ loop-next-preserved-in-Within g c =
 pub loop-next-preserved : goal.loop-next-preserved
 loop-next-preserved g c =
     let a = g.K.Kind.alphabet in
-    let t = c.args.text.now in
+    let t = c.args.text.characters.now in
     let l = c.loop-next in
     let later = c.next.new.self.at.place in
     let last = c.push_part.new.self in

@@ -19,7 +19,7 @@ starts c =
 
 pub loop-start-init : goal.loop-start-init
 loop-start-init c =
-    let few = few_fragments c.args.lo (held c.args.self.now) c.requires in
+    let few = few_fragments c.args.lo (held c.args.self.now) c.requires.within in
     let items = held c.args.self.now in
     let gap : cut_from c.from-gap.result [] [] items ≡ fragments c.args.lo items = ap (λ n. cut_from n [] [] items) c.from-gap.ensures in
     let none = c.new-fragments.ensures in (

@@ -2,6 +2,7 @@ pub mod Anchors
 pub mod Backs
 pub mod Compiled
 pub mod Decisions
+pub mod Elements
 pub mod Follows
 pub mod Mirrors
 pub mod Places

@@ -3,10 +3,10 @@ pub mod AxleMarks
 pub mod Bytes
 pub mod Fragments
 pub mod Grammar
+pub mod Laws
 pub mod Patterns
 pub mod Reader
 pub mod Readings
 pub mod Search
 pub mod Spans
 pub mod Spelling
-pub mod Elements

@@ -1,6 +1,6 @@
 // Any reading from its last element to its first.
 ghost use Rattle.std.specs.Prelude.{◌≡◌, reverse};
-ghost use Rattle.kinds.specs.Readings.{reverse_bounded};
+ghost use Rattle.kinds.specs.Readings.{FitsReading-reverse};
 
 use crate::reading::Reading;
 
@@ -23,7 +23,7 @@ impl<R: Reading> Reading for Backward<R> {
 
     ghost elements = { λ s. reverse (R.elements s.forward) };
 
-    ghost bounded = { λ s. reverse_bounded (R.elements s.forward) (R.bounded s.forward) };
+    ghost fits = { λ s. FitsReading-reverse (R.elements s.forward) (R.fits s.forward) };
 
     fn len(&self) -> u32 {
         self.forward.len()

@@ -1,18 +1,15 @@
 // A reading of a lent list of elements, of any kind.
 ghost use Rattle.std.specs.Prelude.{◌≡◌};
-ghost use Rattle.kinds.specs.Readings.{Bounded, shown};
+ghost use Rattle.kinds.specs.Readings.{FitsReading, shown};
 
 use crate::kind::Kind;
-use crate::reading::Reading;
-
-// The longest list that a reading can show.
-const LONGEST: usize = u32::MAX as usize;
+use crate::reading::{Reading, showable};
 
 // Not `Copy`: a reading is handed over once.
 #[derive(Drop)]
 pub struct Held<'a, K> {
     items: &'a [K],
-    ghost bounded: { Bounded items.now },
+    ghost fits: { FitsReading items.now },
 }
 
 impl<'a, K: Kind> Held<'a, K> {
@@ -21,7 +18,7 @@ impl<'a, K: Kind> Held<'a, K> {
         ensures { result.items.now ≡ shown items.now }
     {
         Held {
-            items: &items[..LONGEST.min(items.len())],
+            items: showable(items),
         }
     }
 }
@@ -31,7 +28,7 @@ impl<'a, K: Kind> Reading for Held<'a, K> {
 
     ghost elements = { λ s. s.items.now };
 
-    ghost bounded = { λ s. s.bounded };
+    ghost fits = { λ s. s.fits };
 
     fn len(&self) -> u32 {
         self.items.len() as u32

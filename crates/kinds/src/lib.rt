@@ -3,6 +3,7 @@
 
 pub mod backward;
 pub mod byte;
+pub mod bytes;
 pub mod grammar;
 pub mod held;
 pub mod kind;

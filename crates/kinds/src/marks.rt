@@ -1,7 +1,7 @@
 // Axle marks over any byte reading.
 ghost use Rattle.std.specs.Prelude.{◌≡◌, map};
 ghost use Rattle.kinds.specs.AxleMarks.{mark_of};
-ghost use Rattle.kinds.specs.Readings.{map_bounded};
+ghost use Rattle.kinds.specs.Readings.{FitsReading-map};
 
 use crate::byte::Byte;
 use crate::mark::Mark;
@@ -26,7 +26,7 @@ impl<R: Reading<Element = Byte>> Reading for Marks<R> {
 
     ghost elements = { λ s. map mark_of (R.elements s.bytes) };
 
-    ghost bounded = { λ s. map_bounded mark_of (R.elements s.bytes) (R.bounded s.bytes) };
+    ghost fits = { λ s. FitsReading-map mark_of (R.elements s.bytes) (R.fits s.bytes) };
 
     fn len(&self) -> u32 {
         self.bytes.len()

@@ -1,7 +1,7 @@
 // Bytes are a kind: the code is the value, the pair two hexadecimal digits in upper case.
 ghost use Rattle.std.specs.Prelude.{◌≡◌};
 ghost use Rattle.kinds.specs.Bytes.{byte, hexadecimal, byte_alphabet};
-ghost use Rattle.kinds.specs.Elements.{byte_lawful};
+ghost use Rattle.kinds.specs.Laws.{byte_lawful};
 
 use crate::byte::Byte;
 use crate::kind::Kind;

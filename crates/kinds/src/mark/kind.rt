@@ -1,7 +1,7 @@
 // Axle marks are a kind: U0, S0 to S9, D0 to D9.
 ghost use Rattle.std.specs.Prelude.{◌≡◌, Some};
 ghost use Rattle.kinds.specs.AxleMarks.{mark_of, mark_pair, mark_text, mark_alphabet};
-ghost use Rattle.kinds.specs.Elements.{mark_lawful};
+ghost use Rattle.kinds.specs.Laws.{mark_lawful};
 
 use crate::byte::Byte;
 use crate::kind::Kind;

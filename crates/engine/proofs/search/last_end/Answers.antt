@@ -30,7 +30,7 @@ returns-in_err-from g c =
     let elements = g.R.Reading.elements c.args.reading.now in
     let xs = codes_of g.R.Element.Kind.alphabet elements in
     let size : length xs ≡ length elements = simp length-map in
-    let few : length xs < 2 ^ 64 = omega (arith, g.R.Reading.bounded c.args.reading.now) in
+    let few : length xs < 2 ^ 64 = omega (arith, g.R.Reading.fits c.args.reading.now) in
     let whole = sym c.as_slice.ensures.value ∙ c.in_ok-first.ensures.cases.0 in
     ap is_some c.from_residual-in_err-from.ensures
     ∙ come_past c.args.sequence.now c.args.starts xs c.in_ok-first.first.now c.in_ok-first.others.now whole c.loop-fragment.fragment-index c.loop-fragment.end c.loop-fragment.invariant

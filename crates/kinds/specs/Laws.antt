@@ -1,12 +1,12 @@
--- Bytes and bands are told by their numbers, marks by their codes; and what the tests of a pair tell.
-use Rattle.std.specs.Prelude.{◌≡◌, ℕ, ◌+◌, ◌-◌, ◌<◌, ◌≤◌, true, Some, None, Option, refl}
-use Rattle.std.proofs.Common.{ap, ◌∙◌, sym, arith}
+-- Bytes and axle marks keep the law of a kind.
+use Rattle.std.specs.Prelude.{◌≡◌, ℕ, ◌<◌, true, Some, None, Option, refl}
+use Rattle.std.proofs.Common.{ap, arith}
 use mathlib.Core.HLevel.{is_prop→PathP}
 use Rattle.std.proofs.Math.Bridge.{le_prop}
 use Rattle.std.proofs.lemmas.Bool.Decides.{nat_tests}
 use Rattle.kinds.specs.Alphabet.{Lawful, alphanumeric}
 use Rattle.kinds.specs.Bytes.{byte, byte_alphabet, hexadecimal, of_digits}
-use Rattle.kinds.specs.AxleMarks.{band, mark_alphabet, mark_code, mark_named, mark_of, mark_pair}
+use Rattle.kinds.specs.AxleMarks.{mark_alphabet, mark_code, mark_named}
 use Rattle.kinds.specs.declared.byte.Byte.{Byte}
 use Rattle.kinds.specs.declared.mark.Band.{Band}
 use Rattle.kinds.specs.declared.mark.Mark.{Mark}
@@ -19,18 +19,6 @@ same_byte x y e = λ i. record { value = e i; fits = is_prop→PathP (λ j. e j 
 -- two bands of one digit are one
 pub same_band : (x y : Band) → x.digit ≡ y.digit → x ≡ y
 same_band x y e = λ i. record { digit = e i; decimal = is_prop→PathP (λ j. e j < 10) (λ j. le_prop) x.decimal y.decimal i }
-
--- a byte with the value n is the byte that is made of n
-pub is_byte : (x : Byte) (n : ℕ) → x.value ≡ n → x ≡ byte n
-is_byte x n e = same_byte x (byte n) (omega (arith, x.fits))
-
--- a band with the digit n is the band that is made of n
-pub is_band : (x : Band) (n : ℕ) → x.digit ≡ n → x ≡ band n
-is_band x n e = same_band x (band n) (omega (arith, x.decimal))
-
--- the value of a hexadecimal digit is below 16
-pub hexadecimal_small : (c n : ℕ) → hexadecimal c ≡ Some n → n < 16
-hexadecimal_small c n e = grind (arith, nat_tests)
 
 -- a hexadecimal digit is a digit or a letter
 pub hexadecimal_alphanumeric : (c n : ℕ) → hexadecimal c ≡ Some n → alphanumeric c ≡ true
@@ -66,38 +54,6 @@ digits_alphanumeric first second x = go (hexadecimal first) (hexadecimal second)
     go None low p q e = grind arith
     go (Some h) None p q e = grind arith
     go (Some h) (Some l) p q e = (hexadecimal_alphanumeric first h p, hexadecimal_alphanumeric second l q)
-
--- a byte within the range of the single tyres is the mark of its band
-pub mark_of_single : (b : Byte) (t : Band) → 0x10 ≤ b.value → b.value < 0x1a → t.digit ≡ b.value - 0x10 → Single t ≡ mark_of b
-mark_of_single b t low high e = ap Single (is_band t _ e) ∙ grind (arith, nat_tests)
-
--- a byte within the range of the dual tyres is the mark of its band
-pub mark_of_dual : (b : Byte) (t : Band) → 0x20 ≤ b.value → b.value < 0x2a → t.digit ≡ b.value - 0x20 → Dual t ≡ mark_of b
-mark_of_dual b t low high e = ap Dual (is_band t _ e) ∙ grind (arith, nat_tests)
-
--- what a digit character names behind S and D
-named_at : (c : ℕ) → 48 ≤ c → c ≤ 57 → (mark_named 83 c ≡ Some (Single (band (c - 48)))) × (mark_named 68 c ≡ Some (Dual (band (c - 48))))
-named_at c low high = (grind (arith, nat_tests), grind (arith, nat_tests))
-
--- S and the digit of a band name the single tyre of that band
-named_single : (b : Band) (c : ℕ) → c ≡ 48 + b.digit → mark_named 83 c ≡ Some (Single b)
-named_single b c e =
-    let within : b.digit < 10 = b.decimal in
-    let own : band (c - 48) ≡ b = sym (is_band b (c - 48) (omega arith)) in
-    (named_at c (omega arith) (omega arith)).0 ∙ ap (λ t. Some (Single t)) own
-
--- D and the digit of a band name the dual tyre of that band
-named_dual : (b : Band) (c : ℕ) → c ≡ 48 + b.digit → mark_named 68 c ≡ Some (Dual b)
-named_dual b c e =
-    let within : b.digit < 10 = b.decimal in
-    let own : band (c - 48) ≡ b = sym (is_band b (c - 48) (omega arith)) in
-    (named_at c (omega arith) (omega arith)).1 ∙ ap (λ t. Some (Dual t)) own
-
--- the pair of a mark names it
-pub mark_pair_names : (m : Mark) → mark_named (mark_pair m).0 (mark_pair m).1 ≡ Some m
-mark_pair_names Unread = refl
-mark_pair_names (Single b) = named_single b _ refl
-mark_pair_names (Dual b) = named_dual b _ refl
 
 -- the law of a kind, for bytes
 pub byte_lawful : Lawful byte_alphabet

@@ -1,10 +1,11 @@
 // The interface of a reading: its meaning is a list of elements of one kind.
-ghost use Rattle.std.specs.Prelude.{◌≡◌, List, length, IfOk};
+ghost use Rattle.std.specs.Prelude.{◌≡◌, ◌+◌, ◌<◌, ◌++◌, List, length, OnOk, OnErr, vec_len};
+ghost use Rattle.std.specs.Vec.{vec_capacity};
 ghost use Rattle.kinds.specs.Readings.{FitsReading, shown};
 ghost use Rattle.std.specs.List.{slice_get};
 
 use crate::kind::Kind;
-use std::alloc::{AllocError, Global};
+use std::alloc::AllocError;
 
 // The longest list that a reading can show.
 const LONGEST: usize = u32::MAX as usize;
@@ -38,11 +39,23 @@ pub(crate) fn showable<T>(items: &[T]) -> &[T]
     &items[..LONGEST.min(items.len())]
 }
 
-// All elements of a reading, in order.
-pub fn to_vec<R: Reading>(heap: Global, reading: &R) -> Result<Vec<R::Element>, AllocError>
-    ensures { IfOk result (λ v. v.items ≡ R.elements reading.now) }
+/// Copies all elements of a reading to the end of a list, in order.
+///
+/// It is refused only where the list has too little room for them and there is no memory for more. Then the list holds
+/// what it held.
+pub fn copy_elements<R: Reading>(reading: &R, list: &mut Vec<R::Element>) -> Result<(), AllocError>
+    ensures ok { OnOk result (list.new.items ≡ list.old.items ++ R.elements reading.now) }
+    ensures err { OnErr result (list.new.items ≡ list.old.items) }
+    ensures full {
+        OnErr result (vec_capacity list.old < vec_len list.old + length (R.elements reading.now))
+    }
 {
-    (0..reading.len())
-        .filter_map(|place| reading.at(place))
-        .collect(heap)
+    let len = reading.len();
+    list.try_reserve(len as usize)?;
+    for place in 0..len {
+        if let Some(x) = reading.at(place) {
+            list.push(x)?;
+        }
+    }
+    Ok(())
 }

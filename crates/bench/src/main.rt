@@ -2,11 +2,8 @@
 #![tactic(auto)]
 
 use engine::text::compiled;
-use kinds::backward::Backward;
-use kinds::byte::Byte;
-use kinds::held::Held;
+use kinds::{Backward, Byte, Held, Order, Reading};
 use kinds::pattern::{Offsets, Reference};
-use kinds::reading::{Order, Reading};
 use std::process::ExitCode;
 use std::{env, fs, io};
 

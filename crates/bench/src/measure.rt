@@ -1,7 +1,7 @@
 // A search, run and timed.
 use engine::search::hits;
 use engine::sequence::Sequence;
-use kinds::reading::Reading;
+use kinds::Reading;
 use std::time::{Clock, Duration, Instant};
 use std::{fmt, io};
 

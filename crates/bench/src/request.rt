@@ -1,6 +1,6 @@
 // What the words of a call ask for.
 use crate::complaint::Complaint;
-use kinds::reading::Order;
+use kinds::Order;
 
 // How often a search is run where no word says it.
 const RUNS: u32 = 5;

@@ -2,7 +2,7 @@
 ghost use Rattle.std.specs.Prelude.{reverse, take, drop};
 ghost use Rattle.engine.specs.Lent.{FitsReading-back, FitsReading-on};
 
-use kinds::reading::Reading;
+use kinds::Reading;
 
 // A lent reading, for what takes a reading by value.
 #[derive(Drop)]

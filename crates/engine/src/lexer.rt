@@ -9,7 +9,7 @@ ghost use Rattle.kinds.specs.Reader.{digits, leads, least as lower, most as uppe
 
 use crate::cursor::Cursor;
 use crate::token::{Class, Expects, Gap, Punctuation, Token};
-use kinds::kind::Kind;
+use kinds::Kind;
 
 // Where a text cannot be read on.
 #[derive(Clone, Copy, PartialEq, Eq, Debug)]

@@ -14,7 +14,7 @@ use crate::limits::LONGEST_SPAN;
 use crate::part::{Part, PlacedPart};
 use crate::pattern::Pattern;
 use crate::reach::code_at;
-use kinds::reading::Reading;
+use kinds::Reading;
 
 // The most elements of a fragment that can stand before its anchor.
 const FARTHEST: usize = LONGEST_SPAN - 1;

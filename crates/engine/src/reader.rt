@@ -9,7 +9,7 @@ use crate::lexer::Lexer;
 use crate::part::PlacedPart;
 use crate::pattern::Pattern;
 use crate::step::{Step, advance};
-use kinds::kind::Kind;
+use kinds::Kind;
 use std::alloc::Global;
 
 // The refusal of a text at a place.

@@ -17,9 +17,8 @@ use crate::pattern::Pattern;
 use crate::reader::read;
 use crate::search::hits;
 use crate::sequence::Sequence;
-use kinds::kind::Kind;
+use kinds::{Kind, Reading};
 use kinds::pattern::{Offsets, Reference};
-use kinds::reading::Reading;
 use std::alloc::Global;
 
 // A text's items, or its refusal.

@@ -1,15 +1,27 @@
 // Element kinds, readings, and their meaning: what the engine is generic over.
 #![tactic(auto)]
 
-pub mod backward;
-pub mod byte;
-pub mod bytes;
+mod backward;
+mod byte;
+mod bytes;
 pub mod grammar;
-pub mod held;
-pub mod kind;
-pub mod mark;
-pub mod marks;
+mod held;
+mod kind;
+mod mark;
+mod marks;
 pub mod pattern;
-pub mod reading;
-pub mod spelling;
+mod reading;
+mod spelling;
+#[cfg(test)]
+mod tests;
 pub mod theorems;
+
+pub use backward::Backward;
+pub use byte::Byte;
+pub use bytes::Bytes;
+pub use held::Held;
+pub use kind::Kind;
+pub use mark::{Band, Mark, NotADigit};
+pub use marks::Marks;
+pub use reading::{Order, Reading, copy_elements};
+pub use spelling::{SpellingFault, read_elements};

@@ -2,13 +2,7 @@
 use crate::complaint::Complaint;
 use crate::elements::elements_of;
 use crate::patterns::{Words, hit, read, shown};
-use kinds::backward::Backward;
-use kinds::byte::Byte;
-use kinds::held::Held;
-use kinds::kind::Kind;
-use kinds::mark::Mark;
-use kinds::marks::Marks;
-use kinds::reading::{Order, Reading, to_vec};
+use kinds::{Backward, Byte, Held, Kind, Mark, Marks, Order, Reading, copy_elements};
 use std::alloc::{AllocError, Global};
 
 // A command over elements of some kind, with its words.
@@ -86,7 +80,8 @@ fn codes<K: Kind>(heap: Global, order: Order, word: &str) -> Result<String, Comp
 
 // The codes of a reading, separated by spaces, `-` for none.
 fn written_codes<R: Reading>(heap: Global, reading: &R) -> Result<String, AllocError> {
-    let elements = to_vec(heap, reading)?;
+    let mut elements = Vec::new(heap);
+    copy_elements(reading, &mut elements)?;
     let codes: Vec<String> = elements
         .iter()
         .map(|x| x.code().to_string(heap))
@@ -97,7 +92,8 @@ fn written_codes<R: Reading>(heap: Global, reading: &R) -> Result<String, AllocE
 // The pairs of the axle marks over bytes, run together, `-` for none.
 fn marks(heap: Global, word: &str) -> Result<String, Complaint> {
     let bytes: Vec<Byte> = elements_of(heap, word)?;
-    let marks = to_vec(heap, &Marks::new(Held::new(bytes.as_slice())))?;
+    let mut marks = Vec::new(heap);
+    copy_elements(&Marks::new(Held::new(bytes.as_slice())), &mut marks)?;
     let pairs: String = marks
         .iter()
         .map(|mark| mark.to_string(heap))

@@ -1,5 +1,5 @@
 // Why a line has no answer.
-use kinds::spelling::SpellingFault;
+use kinds::SpellingFault;
 use std::alloc::AllocError;
 use thiserror::Error;
 

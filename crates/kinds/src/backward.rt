@@ -4,13 +4,16 @@ ghost use Rattle.kinds.specs.Readings.{FitsReading-reverse};
 
 use crate::reading::Reading;
 
+/// Any reading from its last element to its first.
+///
+/// It is no `Copy` type: a reading is handed over once.
 #[derive(Drop)]
 pub struct Backward<R> {
     forward: R,
 }
 
 impl<R: Reading> Backward<R> {
-    // A reading, which is handed over, from its last element on.
+    /// A reading, which is handed over, from its last element on.
     pub fn new(forward: R) -> Backward<R>
         ensures { result.forward ≡ forward }
     {

@@ -3,8 +3,8 @@ ghost use Rattle.std.specs.Prelude.{◌≡◌, ◌<◌};
 
 use crate::kind::Kind;
 
-/// A byte as an element of a reading. Its code is its value, and its pair is two hexadecimal digits in upper case
-/// (docs/KINDS_AND_READINGS.md).
+/// A byte as an element of a reading. Its code is its value, and its pair is two hexadecimal digits
+/// in upper case (docs/KINDS_AND_READINGS.md).
 ///
 /// `Byte::from` makes one of a `u8`, and `u8::from` gives its value.
 // The ghost field bounds the code of every byte, also of one that a specification speaks of.
@@ -14,7 +14,7 @@ pub struct Byte {
     ghost fits: { value < 256 },
 }
 
-// The byte of a value.
+/// The byte of a value.
 impl From<u8> for Byte {
     ghost use Rattle.kinds.specs.Bytes.{byte};
 
@@ -25,7 +25,7 @@ impl From<u8> for Byte {
     }
 }
 
-// The value of a byte.
+/// The value of a byte.
 impl From<Byte> for u8 {
     ghost from_gives = { λ byte value. value ≡ byte.value };
 
@@ -37,7 +37,7 @@ impl From<Byte> for u8 {
 impl Byte {
     ghost use Rattle.kinds.specs.Bytes.{hexadecimal};
 
-    // The value of a digit 0-9 or A-F.
+    // The value of a hexadecimal digit, 0-9 or A-F, if a character is one.
     fn digit(c: u8) -> Option<u8>
         ensures { result ≡ hexadecimal c }
     {

@@ -5,7 +5,9 @@ ghost use Rattle.kinds.specs.Readings.{FitsReading, shown};
 use crate::kind::Kind;
 use crate::reading::{Reading, showable};
 
-// Not `Copy`: a reading is handed over once.
+/// A reading of a slice of elements of any kind, such as those that a caller has made.
+///
+/// It is no `Copy` type: a reading is handed over once.
 #[derive(Drop)]
 pub struct Held<'a, K> {
     items: &'a [K],
@@ -13,7 +15,7 @@ pub struct Held<'a, K> {
 }
 
 impl<'a, K: Kind> Held<'a, K> {
-    // What a list holds, no further than a reading can show.
+    /// The reading of a slice, no further than its first 4,294,967,295 elements.
     pub fn new(items: &'a [K]) -> Held<'a, K>
         ensures { result.items.now ≡ shown items.now }
     {

@@ -10,7 +10,8 @@ use std::fmt;
 // How many bands there are.
 const BANDS: u8 = 10;
 
-// The bytes of a strip reading that stand for an axle on single tyres, and for one on dual tyres: S0 to S9, D0 to D9.
+// The bytes of a strip reading that stand for an axle on single tyres, S0 to S9, and for one on dual
+// tyres, D0 to D9.
 const SINGLE_FIRST: u8 = 0x10;
 
 const SINGLE_LAST: u8 = 0x19;
@@ -39,7 +40,7 @@ pub enum Mark {
     Dual(Band),
 }
 
-// A number that is no band.
+/// The refusal of a number that is no band: it is above 9.
 #[derive(Clone, Copy, PartialEq, Eq, Debug)]
 pub struct NotADigit;
 
@@ -65,7 +66,7 @@ impl Band {
     }
 }
 
-// The band of a number, if it is a digit.
+/// The band of a number, refused above 9.
 impl TryFrom<u8> for Band {
     ghost use Rattle.kinds.specs.AxleMarks.{banded};
 
@@ -82,7 +83,7 @@ impl TryFrom<u8> for Band {
     }
 }
 
-// The digit of a band.
+/// The digit of a band, 0 to 9.
 impl From<Band> for u8 {
     ghost use Rattle.kinds.specs.AxleMarks.{digit_of};
 
@@ -93,7 +94,8 @@ impl From<Band> for u8 {
     }
 }
 
-// The mark that a byte of a strip reading stands for.
+/// The mark that a byte of a strip reading stands for, by its value (hexadecimal): 10 to 19 are S0 to S9,
+/// 20 to 29 are D0 to D9, and every other is U0.
 impl From<Byte> for Mark {
     ghost use Rattle.kinds.specs.AxleMarks.{mark_of};
 
@@ -111,7 +113,8 @@ impl From<Byte> for Mark {
 impl Mark {
     ghost use Rattle.kinds.specs.AxleMarks.{mark_alphabet, mark_pair};
 
-    // The letter and the digit that name the mark. It is no conversion: `pair` says what the two characters are.
+    /// The letter and the digit that name the mark, as characters of ASCII.
+    // It is no conversion: `pair` says what the two characters are.
     pub fn pair(self) -> (u8, u8)
         ensures written { result ≡ mark_pair self }
         ensures names_it { mark_alphabet.named result.0 result.1 ≡ Some self }
@@ -124,7 +127,7 @@ impl Mark {
     }
 }
 
-// A mark is printed as its pair.
+/// A mark is printed as its pair, as `S4`.
 impl fmt::Display for Mark {
     ghost use Rattle.kinds.specs.AxleMarks.{mark_text};
 

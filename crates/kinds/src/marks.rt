@@ -7,13 +7,17 @@ use crate::byte::Byte;
 use crate::mark::Mark;
 use crate::reading::Reading;
 
+/// Any reading of bytes, such as those of a strip, as the axle marks that they stand for
+/// (docs/KINDS_AND_READINGS.md).
+///
+/// It is no `Copy` type: a reading is handed over once.
 #[derive(Drop)]
 pub struct Marks<R> {
     bytes: R,
 }
 
 impl<R: Reading<Element = Byte>> Marks<R> {
-    // The marks over a reading, which is handed over.
+    /// The marks over a reading, which is handed over.
     pub fn new(bytes: R) -> Marks<R>
         ensures { result.bytes ≡ bytes }
     {

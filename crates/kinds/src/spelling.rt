@@ -9,18 +9,18 @@ use std::alloc::AllocError;
 use std::error::Error;
 use std::fmt;
 
-// Why a text is not read as elements.
+/// Why a text is not read as elements.
 #[derive(Clone, Copy, PartialEq, Eq, Debug)]
 pub enum SpellingFault {
-    // The pair at this place names no element.
+    /// The pair that begins at this place, counted in characters from 0, names no element.
     Unnamed(usize),
-    // One character is left over.
+    /// All pairs name elements, and one character is left over.
     Odd,
-    // There is no memory for the elements.
+    /// There is no memory for the elements.
     Memory,
 }
 
-// What is wrong, for whoever wrote the text.
+/// What is wrong, for whoever wrote the text.
 impl fmt::Display for SpellingFault {
     ghost output = { λ fault. Some (fault_text fault) };
 
@@ -35,6 +35,7 @@ impl fmt::Display for SpellingFault {
 
 impl Error for SpellingFault {}
 
+/// Want of memory is a reason to read no elements.
 impl From<AllocError> for SpellingFault {
     ghost from_gives = { λ _ r. r ≡ Memory };
 
@@ -43,17 +44,16 @@ impl From<AllocError> for SpellingFault {
     }
 }
 
-/// Reads a text of pairs run together, and puts the elements that they name at the end of a list, in order.
+/// Reads a text of pairs run together, as `4142` or `S1D4`, and puts the elements that they name at
+/// the end of a list, in order (docs/KINDS_AND_READINGS.md).
 ///
-/// A text that is at fault is refused, and leaves the list as it was. Want of memory is the reason only where the list has
-/// too little room for as many elements as the text has pairs.
+/// A text is refused at its first fault. Want of memory is the reason only where the list has too
+/// little room for as many elements as the text has pairs. Each refusal leaves the list as it was.
 pub fn read_elements<K: Kind>(text: &[u8], list: &mut Vec<K>) -> Result<(), SpellingFault>
     ensures ok { OnOk result (after list.old.items (spelled K.alphabet text.now) ≡ Ok list.new.items) }
     ensures unchanged { OnErr result (list.new.items ≡ list.old.items) }
     ensures fault { IfErr result (λ e. e ≢ Memory → spelled K.alphabet text.now ≡ Err e) }
-    ensures memory {
-        result ≡ Err Memory → vec_capacity list.old < vec_len list.old + length text.now / 2
-    }
+    ensures memory { result ≡ Err Memory → vec_capacity list.old < vec_len list.old + length text.now / 2 }
 {
     list.try_reserve(text.len() / 2)?;
     let before = list.len();
@@ -64,7 +64,7 @@ pub fn read_elements<K: Kind>(text: &[u8], list: &mut Vec<K>) -> Result<(), Spel
     read
 }
 
-// Pushes the elements that the pairs of a text name into room that the list has, up to the first fault.
+// Pushes the elements that the pairs of a text name, up to the first fault, into room that the list has.
 fn push_elements<K: Kind>(text: &[u8], list: &mut Vec<K>) -> Result<(), SpellingFault>
     requires { vec_len list.old + length text.now / 2 ≤ vec_capacity list.old }
     ensures ok { OnOk result (after list.old.items (spelled K.alphabet text.now) ≡ Ok list.new.items) }

@@ -23,8 +23,14 @@ fn copies_the_elements_of_a_file(rt: HostRuntime) {
 fn reads_the_elements_of_a_text(rt: HostRuntime) {
     let mut bytes: Vec<Byte> = Vec::new(rt.alloc());
     assert_eq!(rt; read_elements(b"4142", &mut bytes), Ok(()));
-    assert_eq!(rt; read_elements(b"434x", &mut bytes), Err(SpellingFault::Unnamed(2)));
+    assert_eq!(rt;
+        read_elements(b"434x", &mut bytes),
+        Err(SpellingFault::Unnamed(2))
+    );
     assert_eq!(rt; read_elements(b"434", &mut bytes), Err(SpellingFault::Odd));
     assert_eq!(rt; read_elements(b"43", &mut bytes), Ok(()));
-    assert_eq!(rt; bytes.as_slice(), [0x41, 0x42, 0x43].map(Byte::from).as_slice());
+    assert_eq!(rt;
+        bytes.as_slice(),
+        [0x41, 0x42, 0x43].map(Byte::from).as_slice()
+    );
 }

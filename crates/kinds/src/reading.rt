@@ -19,8 +19,8 @@ pub enum Order {
     Backward,
 }
 
-/// A list of elements of one kind that answers for one place at a time, so that it need not be held as a list. It has at
-/// most 4,294,967,295 elements (docs/KINDS_AND_READINGS.md).
+/// A list of elements of one kind that answers for one place at a time, so that it need not be held
+/// as a list. It has at most 4,294,967,295 elements (docs/KINDS_AND_READINGS.md).
 pub trait Reading {
     /// The kind of its elements.
     type Element: Kind;
@@ -53,7 +53,8 @@ pub(crate) fn showable<T>(items: &[T]) -> &[T]
 pub fn copy_elements<R: Reading>(reading: &R, list: &mut Vec<R::Element>) -> Result<(), AllocError>
     ensures ok { OnOk result (list.new.items ≡ list.old.items ++ R.elements reading.now) }
     ensures err { OnErr result (list.new.items ≡ list.old.items) }
-    ensures full { OnErr result (vec_capacity list.old < vec_len list.old + length (R.elements reading.now)) }
+    ensures full { OnErr result
+        (vec_capacity list.old < vec_len list.old + length (R.elements reading.now)) }
 {
     let len = reading.len();
     list.try_reserve(len as usize)?;

@@ -50,7 +50,8 @@ impl From<AllocError> for SpellingFault {
 /// A text is refused at its first fault. Want of memory is the reason only where the list has too
 /// little room for as many elements as the text has pairs. Each refusal leaves the list as it was.
 pub fn read_elements<K: Kind>(text: &[u8], list: &mut Vec<K>) -> Result<(), SpellingFault>
-    ensures ok { OnOk result (after list.old.items (spelled K.alphabet text.now) ≡ Ok list.new.items) }
+    ensures ok { OnOk result
+        (after list.old.items (spelled K.alphabet text.now) ≡ Ok list.new.items) }
     ensures unchanged { OnErr result (list.new.items ≡ list.old.items) }
     ensures fault { IfErr result (λ e. e ≢ Memory → spelled K.alphabet text.now ≡ Err e) }
     ensures memory { result ≡ Err Memory → vec_capacity list.old < vec_len list.old + length text.now / 2 }
@@ -67,7 +68,8 @@ pub fn read_elements<K: Kind>(text: &[u8], list: &mut Vec<K>) -> Result<(), Spel
 // Pushes the elements that the pairs of a text name, up to the first fault, into room that the list has.
 fn push_elements<K: Kind>(text: &[u8], list: &mut Vec<K>) -> Result<(), SpellingFault>
     requires { vec_len list.old + length text.now / 2 ≤ vec_capacity list.old }
-    ensures ok { OnOk result (after list.old.items (spelled K.alphabet text.now) ≡ Ok list.new.items) }
+    ensures ok { OnOk result
+        (after list.old.items (spelled K.alphabet text.now) ≡ Ok list.new.items) }
     ensures kept { take (vec_len list.old) list.new.items ≡ list.old.items }
     ensures fault { IfErr result (λ e. spelled K.alphabet text.now ≡ Err e) }
 {

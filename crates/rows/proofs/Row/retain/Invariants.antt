@@ -1,7 +1,7 @@
 -- The words before i have been asked about.
 use Rattle.std.proofs.Common.{◌≡◌}
 use Rattle.rows.proofs.Written.{chosen, Written}
-use Rattle.rows.proofs.Row.keep.Given as goal
+use Rattle.rows.proofs.Row.retain.Given as goal
 
 abbrev pub invariant-loop-i : goal.invariant-loop-i
 invariant-loop-i g l =

@@ -2,8 +2,8 @@
 use Rattle.std.proofs.Common.{◌<◌, ◌∙◌, arith, rules}
 use Rattle.rows.proofs.Members.{same_members}
 use Rattle.rows.proofs.Written.{kept_all, kept_more, kept_zero}
-use Rattle.rows.proofs.Row.keep.Goals as goal
-use Rattle.rows.proofs.Row.keep.Goals.{then-self-i-ne0, else-self-i-ne0}
+use Rattle.rows.proofs.Row.retain.Goals as goal
+use Rattle.rows.proofs.Row.retain.Goals.{then-self-i-ne0, else-self-i-ne0}
 
 pub loop-i-preserved : goal.loop-i-preserved
 loop-i-preserved g c =

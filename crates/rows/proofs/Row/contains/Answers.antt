@@ -3,7 +3,7 @@ use Rattle.std.proofs.Common.{◌/◌, ◌%◌, get_or, sym, ◌∙◌}
 use Rattle.std.proofs.lemmas.Bool.{le-ltb}
 use Rattle.rows.proofs.Members.{member_bit, member_past}
 use Rattle.rows.proofs.Words.{bit_tested}
-use Rattle.rows.proofs.Row.has.Goals as goal
+use Rattle.rows.proofs.Row.contains.Goals as goal
 
 pub returns-then-k-lt-WIDTH : goal.returns-then-k-lt-WIDTH
 returns-then-k-lt-WIDTH c =

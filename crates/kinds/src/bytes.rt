@@ -15,9 +15,11 @@ pub struct Bytes<'a> {
 }
 
 impl<'a> Bytes<'a> {
+    ghost use Rattle.kinds.specs.Bytes.{byte};
+
     /// The reading of a slice, no further than its first 4,294,967,295 bytes.
     pub fn new(bytes: &'a [u8]) -> Bytes<'a>
-        ensures { result.bytes.now ≡ shown bytes.now }
+        ensures { ⟦<Bytes<'a> as Reading>⟧.elements result ≡ map byte (shown bytes.now) }
     {
         Bytes {
             bytes: showable(bytes),

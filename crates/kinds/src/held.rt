@@ -17,7 +17,7 @@ pub struct Held<'a, K> {
 impl<'a, K: Kind> Held<'a, K> {
     /// The reading of a slice, no further than its first 4,294,967,295 elements.
     pub fn new(items: &'a [K]) -> Held<'a, K>
-        ensures { result.items.now ≡ shown items.now }
+        ensures { ⟦<Held<'a, K> as Reading>⟧.elements result ≡ shown items.now }
     {
         Held {
             items: showable(items),

@@ -19,7 +19,7 @@ pub struct Marks<R> {
 impl<R: Reading<Element = Byte>> Marks<R> {
     /// The marks over a reading, which is handed over.
     pub fn new(bytes: R) -> Marks<R>
-        ensures { result.bytes ≡ bytes }
+        ensures { ⟦<Marks<R> as Reading>⟧.elements result ≡ map mark_of (R.elements bytes) }
     {
         Marks { bytes }
     }

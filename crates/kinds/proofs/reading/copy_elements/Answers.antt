@@ -1,5 +1,5 @@
 -- Each place in turn gives one element more, and a push into room that was reserved is never refused.
-use Rattle.std.proofs.Common.{◌≡◌, ◌≤◌, ◌++◌, length, take, Some, take_all, ap, ◌∙◌, arith}
+use Rattle.std.proofs.Common.{◌≡◌, ◌≤◌, ◌++◌, length, take, Some, take_all, sym, ap, ◌∙◌, arith}
 use Rattle.std.proofs.lemmas.Grind.{common_steps}
 use Rattle.std.specs.List.{slice_get}
 use Rattle.kinds.proofs.Places.{copied_more, nth_none}
@@ -20,7 +20,7 @@ loop-place-preserved g c =
     elim c.match-at.branch [
       | in-Some+in_ok-push w ↦
           let pushed = w.in_ok-push.ensures in
-          let found : slice_get xs place ≡ Some w.in-Some.x = grind (arith, common_steps) in
+          let found : slice_get xs place ≡ Some w.in-Some.x = sym c.at.ensures ∙ w.in-Some.is in
           rw w.list-is (
           record {
             copied = pushed.items ∙ copied_more _ _ xs place w.in-Some.x so_far.copied found;

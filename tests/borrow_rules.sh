@@ -19,9 +19,7 @@ program() {
         cat <<'HEAD'
 #![tactic(auto)]
 
-use kinds::byte::Byte;
-use kinds::held::Held;
-use kinds::reading::Reading;
+use kinds::{Byte, Held, Reading};
 
 fn handed_over<R: Reading + Drop>(reading: R) -> u32 {
     reading.len()

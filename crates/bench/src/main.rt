@@ -1,14 +1,11 @@
-// Measures the search: how long a file's bytes are searched for a pattern text.
+//! Measures the search: how long a file's bytes are searched for a pattern text.
 #![tactic(auto)]
 
-use engine::text::compiled;
-use kinds::backward::Backward;
-use kinds::byte::Byte;
-use kinds::held::Held;
-use patterns::Reference;
-use kinds::reading::{Order, Reading};
+use engine::{PatternText, Reference, Sequence};
+use kinds::{Backward, Byte, Bytes, Order};
+use std::io::ErrorKind;
 use std::process::ExitCode;
-use std::{env, fs, io};
+use std::{env, fs};
 
 mod complaint;
 mod measure;
@@ -16,57 +13,53 @@ mod request;
 
 use complaint::Complaint;
 use measure::measured;
-use request::{Request, request_of};
+use request::{Asked, Request, asked};
 
-// The text may stand at any place.
-const ANYWHERE: Offsets = Offsets {
-    reference: Reference::Anywhere,
-    lo: 0,
-    hi: 0,
-};
+const USAGE: &str = "\
+usage: bench FILE TEXT [RUNS] [backward]
 
-const USAGE: &str = "bench FILE TEXT [RUNS] [backward]";
-
-// The bytes of a file, as elements.
-fn bytes_of(rt: &HostRuntime, file: &str) -> Result<Vec<Byte>, Complaint> {
-    let bytes = fs::read(rt, file).map_err(Complaint::Unreadable)?;
-    Ok(bytes.iter().copied().map(Byte::from).collect(rt.alloc())?)
-}
+Searches the bytes of FILE for the pattern TEXT, anywhere, and prints hit or miss, the least time of
+RUNS searches (5 where none are given) and the speed.";
 
 // The measure of a request's search, or the refusal of its text, as a line.
 fn answer(rt: &HostRuntime, request: Request) -> Result<String, Complaint> {
-    let heap = rt.alloc();
-    let bytes = bytes_of(rt, request.file)?;
-    let held = Held::new(bytes.as_slice());
-    let text = request.text.as_bytes();
-    let sequence = match compiled::<Byte>(heap, 1, ANYWHERE, text) {
+    let alloc = rt.alloc();
+    let text = PatternText::try_from(request.text.as_bytes())?;
+    let sequence = match Sequence::<Byte>::compile(1, Reference::Anywhere, text) {
         Ok(sequence) => sequence,
-        Err(failure) => return Ok(failure.to_line(heap)?),
+        Err(fault) => return Ok(fault.line().to_string(alloc)?),
     };
+    let file = fs::read(rt, request.file).map_err(Complaint::Unreadable)?;
+    let bytes = Bytes::new(file.as_slice());
     let measure = match request.order {
-        Order::Forward => measured(rt, &sequence, &held, request.runs)?,
-        Order::Backward => measured(rt, &sequence, &Backward::new(held), request.runs)?,
+        Order::Forward => measured(rt, &sequence, &bytes, request.runs)?,
+        Order::Backward => measured(rt, &sequence, &Backward::new(bytes), request.runs)?,
     };
-    Ok(format!(in heap; "{measure}")?)
+    Ok(format!(in alloc; "{measure}")?)
 }
 
 // Prints the answer to the words of the call.
 fn run(rt: &HostRuntime) -> Result<(), Complaint> {
     let args: Vec<String> = env::args(rt)?.skip(1).collect(rt.alloc())?;
     let words: Vec<&str> = args.iter().map(|word| word.as_str()).collect(rt.alloc())?;
-    match request_of(words.as_slice())? {
-        None => rt.println(USAGE)?,
-        Some(request) => rt.println(answer(rt, request)?.as_str())?,
+    match asked(words.as_slice())? {
+        Asked::Usage => rt.println(USAGE).map_err(Complaint::Output),
+        Asked::Search(request) => {
+            let answer = answer(rt, request)?;
+            rt.println(answer.as_str()).map_err(Complaint::Output)
+        }
     }
-    Ok(())
 }
 
-fn main(rt: HostRuntime) -> io::Result<ExitCode> {
+fn main(rt: HostRuntime) -> ExitCode {
     match run(&rt) {
-        Ok(()) => Ok(ExitCode::SUCCESS),
+        Ok(()) => ExitCode::SUCCESS,
+        // Whoever read the answer has read enough.
+        Err(Complaint::Output(e)) if e.kind() == ErrorKind::BrokenPipe => ExitCode::SUCCESS,
         Err(complaint) => {
-            rt.eprintln(format_args!("bench: {complaint}"))?;
-            Ok(ExitCode::FAILURE)
+            // Where that cannot be written either, the status tells of it.
+            let _ = rt.eprintln(format_args!("bench: {complaint}"));
+            ExitCode::FAILURE
         }
     }
 }

@@ -1,11 +1,10 @@
-// A search, run and timed.
-use engine::search::hits;
-use engine::sequence::Sequence;
-use kinds::reading::Reading;
+//! A search, run and timed.
+use engine::Sequence;
+use kinds::{Kind, Reading};
 use std::time::{Clock, Duration, Instant};
 use std::{fmt, io};
 
-// What a search answered, the least time of its runs, and how many elements the reading has.
+/// What a search answered, the least time of its runs, and how many elements the reading has.
 #[derive(Clone, Copy)]
 pub struct Measure {
     hit: bool,
@@ -13,10 +12,10 @@ pub struct Measure {
     len: u32,
 }
 
-// Runs a search a number of times, and times each.
-pub fn measured<R: Reading>(
+/// Runs a search a number of times, and times each.
+pub fn measured<K: Kind, R: Reading<Element = K>>(
     clock: &impl Clock,
-    sequence: &Sequence,
+    sequence: &Sequence<K>,
     reading: &R,
     runs: u32,
 ) -> io::Result<Measure> {
@@ -24,7 +23,7 @@ pub fn measured<R: Reading>(
     let mut best = Duration::MAX;
     for _ in 0..runs {
         let start = Instant::now(clock)?;
-        hit = hits(sequence, reading);
+        hit = sequence.hits(reading);
         best = best.min(start.elapsed(clock)?);
     }
     Ok(Measure {

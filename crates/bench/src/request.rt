@@ -1,11 +1,11 @@
-// What the words of a call ask for.
+//! What the words of a call ask for.
 use crate::complaint::Complaint;
-use kinds::reading::Order;
+use kinds::Order;
 
 // How often a search is run where no word says it.
 const RUNS: u32 = 5;
 
-// The file's bytes are searched for the text, in an order, a number of times.
+/// The file's bytes are searched for the text, in an order, a number of times.
 #[derive(Clone, Copy)]
 pub struct Request<'w> {
     pub file: &'w str,
@@ -14,17 +14,26 @@ pub struct Request<'w> {
     pub order: Order,
 }
 
-// The words behind the program's name, or none where there are none.
-pub fn request_of<'w>(words: &[&'w str]) -> Result<Option<Request<'w>>, Complaint> {
+/// What a call asks for.
+#[derive(Clone, Copy)]
+pub enum Asked<'w> {
+    /// How the program is called.
+    Usage,
+    /// A search.
+    Search(Request<'w>),
+}
+
+/// What the words behind the program's name ask for.
+pub fn asked<'w>(words: &[&'w str]) -> Result<Asked<'w>, Complaint> {
     let (file, text, runs, order) = match words {
-        [] => return Ok(None),
+        [] | ["--help"] => return Ok(Asked::Usage),
         [file, text] => (file, text, RUNS, Order::Forward),
         [file, text, "backward"] => (file, text, RUNS, Order::Backward),
         [file, text, runs] => (file, text, runs_of(runs)?, Order::Forward),
         [file, text, runs, "backward"] => (file, text, runs_of(runs)?, Order::Backward),
         _ => return Err(Complaint::Words),
     };
-    Ok(Some(Request {
+    Ok(Asked::Search(Request {
         file,
         text,
         runs,

@@ -18,7 +18,7 @@ use crate::scan::next_fit_up_to;
 use crate::oriented::Oriented;
 use crate::smaller::smaller;
 use crate::starts::{Starts, place_behind};
-use kinds::reading::Reading;
+use kinds::Reading;
 
 // Whether a fragment's bounds are in order and lie in a pattern.
 fn is_bounded(pattern: &Pattern, fragment: &Fragment) -> bool

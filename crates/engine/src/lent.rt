@@ -1,8 +1,8 @@
 // Readings of a lent reading: all of it, and each side of a place in it.
 ghost use Rattle.std.specs.Prelude.{reverse, take, drop};
-ghost use Rattle.engine.specs.Lent.{back_bounded, on_bounded};
+ghost use Rattle.engine.specs.Lent.{FitsReading-back, FitsReading-on};
 
-use kinds::reading::Reading;
+use kinds::Reading;
 
 // A lent reading, for what takes a reading by value.
 #[derive(Drop)]
@@ -15,7 +15,7 @@ impl<'r, R: Reading> Reading for Lent<'r, R> {
 
     ghost elements = { λ s. R.elements s.reading.now };
 
-    ghost bounded = { λ s. R.bounded s.reading.now };
+    ghost fits = { λ s. R.fits s.reading.now };
 
     fn len(&self) -> u32 {
         self.reading.len()
@@ -39,7 +39,7 @@ impl<'r, R: Reading> Reading for BackFrom<'r, R> {
 
     ghost elements = { λ s. reverse (take s.start (R.elements s.reading.now)) };
 
-    ghost bounded = { λ s. back_bounded s.start (R.elements s.reading.now) (R.bounded s.reading.now) };
+    ghost fits = { λ s. FitsReading-back s.start (R.elements s.reading.now) (R.fits s.reading.now) };
 
     fn len(&self) -> u32 {
         self.reading.len().min(self.start)
@@ -63,7 +63,7 @@ impl<'r, R: Reading> Reading for OnFrom<'r, R> {
 
     ghost elements = { λ s. drop s.start (R.elements s.reading.now) };
 
-    ghost bounded = { λ s. on_bounded s.start (R.elements s.reading.now) (R.bounded s.reading.now) };
+    ghost fits = { λ s. FitsReading-on s.start (R.elements s.reading.now) (R.fits s.reading.now) };
 
     fn len(&self) -> u32 {
         self.reading.len().saturating_sub(self.start)

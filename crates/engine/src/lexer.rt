@@ -9,7 +9,7 @@ ghost use Rattle.patterns.specs.Reader.{digits, leads, least as lower, most as u
 
 use crate::cursor::Cursor;
 use crate::token::{Class, Expects, Gap, Punctuation, Token};
-use kinds::kind::Kind;
+use kinds::Kind;
 
 // Where a text cannot be read on.
 #[derive(Clone, Copy, PartialEq, Eq, Debug)]

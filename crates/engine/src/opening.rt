@@ -13,7 +13,7 @@ use crate::fragment::Fragment;
 use crate::limits::LONGEST_SPAN;
 use crate::pattern::{Part, Pattern, PlacedPart};
 use crate::reach::code_at;
-use kinds::reading::Reading;
+use kinds::Reading;
 
 // The most elements of a fragment that can stand before its anchor.
 const FARTHEST: usize = LONGEST_SPAN as usize - 1;

@@ -6,7 +6,7 @@ use crate::fault::{Failure, Fault};
 use crate::pattern::Pattern;
 use crate::pattern_text::PatternText;
 use crate::reader::read;
-use kinds::kind::Kind;
+use kinds::Kind;
 use patterns::Reference;
 
 /// A pattern in the order of its search: mirrored for a sequence from the back.

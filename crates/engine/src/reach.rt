@@ -13,9 +13,8 @@ ghost use Rattle.patterns.specs.Search.{stretch};
 ghost use Rattle.patterns.specs.declared.direction.Direction.TheVariants.{FirstOn};
 
 use crate::pattern::{Part, Pattern, Run};
-use kinds::kind::Kind;
+use kinds::{Kind, Reading};
 use patterns::Direction;
-use kinds::reading::Reading;
 use rows::{Question, Row};
 use std::cmp::Ordering;
 
@@ -68,7 +67,7 @@ impl<'r, R: Reading> Question for Standing<'r, R> {
 fn pass_literal<R: Reading>(code: u16, row: &mut Row, reading: &R)
     ensures { Stepped (literal code) row.old (codes_of R.Element.alphabet (R.elements reading.now)) row.new }
 {
-    row.keep(&Standing { code, reading });
+    row.retain(&Standing { code, reading });
     row.shift(1);
 }
 
@@ -132,7 +131,7 @@ impl<'c> RunRange<'c> {
             range: *self,
             reading,
         };
-        row.keep(&question);
+        row.retain(&question);
         row.shift(self.low.len());
     }
 }
@@ -158,11 +157,11 @@ fn pass_group<R: Reading>(pattern: &Pattern, runs: &[Run], row: &mut Row, readin
     requires { HasRuns pattern.now runs.now }
     ensures { Stepped (group (map (run_in pattern.now) runs.now)) row.old (codes_of R.Element.alphabet (R.elements reading.now)) row.new }
 {
-    let mut all = Row::none();
+    let mut all = Row::new();
     for run in runs {
         let mut on = *row;
         RunRange::of_one(true, pattern.run_codes(*run)).pass(&mut on, reading);
-        all.join(&on);
+        all.union(&on);
     }
     *row = all;
 }
@@ -206,9 +205,10 @@ pub(crate) fn reach<R: Reading>(pattern: &Pattern, from: usize, to: usize, readi
     requires inside { to ≤ length pattern.now.parts.items }
     ensures { Reached (part_of (held pattern.now) from to) (codes_of R.Element.alphabet (R.elements reading.now)) result }
 {
-    let mut row = Row::none().with(0);
+    let mut row = Row::new();
+    row.insert(0);
     for placed in &pattern.parts.as_slice()[from..to] {
-        if row.is_none() {
+        if row.is_empty() {
             break;
         }
         row = pass_part(pattern, placed.part, row, reading);

@@ -9,7 +9,7 @@ use crate::lexer::Lexer;
 use crate::pattern::{Pattern, PlacedPart};
 use crate::pattern_text::PatternText;
 use crate::step::{Step, advance};
-use kinds::kind::Kind;
+use kinds::Kind;
 
 // The refusal of a text at a place.
 fn refusal(sequence: u8, place: usize) -> Failure

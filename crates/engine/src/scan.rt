@@ -4,8 +4,7 @@ ghost use Rattle.engine.specs.Codes.{codes_of, not_past, ShiftsOf};
 ghost use Rattle.patterns.specs.Search.{stands_at, first_fit};
 
 use crate::fragment::INDICES;
-use kinds::kind::Kind;
-use kinds::reading::Reading;
+use kinds::{Kind, Reading};
 
 // Whether an anchor stands at a place of a reading that has as many elements from there on.
 fn fits<R: Reading>(reading: &R, anchor: &[u16], place: u32) -> bool

@@ -15,8 +15,7 @@ use crate::lent::Lent;
 use crate::limits::MOST_FRAGMENTS;
 use crate::oriented::Oriented;
 use crate::starts::Starts;
-use kinds::backward::Backward;
-use kinds::reading::Reading;
+use kinds::{Backward, Reading};
 use patterns::Reference;
 
 /// The compiled fragments of a sequence by their numbers, wherever they stand. Numbers count from 0.

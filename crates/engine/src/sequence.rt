@@ -11,8 +11,7 @@ use crate::oriented::Oriented;
 use crate::pattern_text::PatternText;
 use crate::search::{Fragments, found};
 use arrayvec::ArrayVec;
-use kinds::kind::Kind;
-use kinds::reading::Reading;
+use kinds::{Kind, Reading};
 use patterns::Reference;
 use std::marker::{Model, PhantomData};
 

@@ -1,13 +1,10 @@
 -- What one turn of the reader of elements keeps.
-use Rattle.std.proofs.Common.{◌≡◌, ℕ, ◌+◌, List, [], ◌∷◌, ◌++◌, length, get_or, Some, Ok, Err, Result, refl, ap, ◌∙◌, append_assoc, arith}
+use Rattle.std.proofs.Common.{◌≡◌, ℕ, ◌+◌, List, [], ◌∷◌, ◌++◌, ◌≤◌, length, take, get_or, Some, None, Ok, Err, Option, Result, refl, ap, ◌∙◌, append_assoc, arith}
+use Rattle.std.proofs.lemmas.List.{take-append-le}
 use Rattle.kinds.specs.Alphabet.{Alphabet}
-use Rattle.kinds.specs.Spelling.{in_front, spelled_from}
+use Rattle.kinds.specs.Spelling.{after, in_front, spelled_from}
 use Rattle.kinds.specs.declared.spelling.SpellingFault.{SpellingFault}
-
--- elements that were read already, before what the rest gives
-abbrev pub after : {E : Type 0} → List E → Result (List E) SpellingFault → Result (List E) SpellingFault
-after xs (Ok ys) = Ok (xs ++ ys)
-after xs (Err fault) = Err fault
+use Rattle.kinds.specs.declared.spelling.SpellingFault.TheVariants.{Memory}
 
 -- one element more of those that were read
 after_push : {E : Type 0} (xs : List E) (x : E) (place : ℕ) (r : Result (List E) SpellingFault) → after xs (in_front place (Some x) r) ≡ after (xs ++ x ∷ []) r
@@ -21,3 +18,25 @@ spelled_more a xs place rest (first ∷ second ∷ []) x two e = ap (λ o. after
 spelled_more a xs place rest [] x two e = absurd (omega arith)
 spelled_more a xs place rest (first ∷ []) x two e = absurd (omega arith)
 spelled_more a xs place rest (first ∷ second ∷ third ∷ more) x two e = absurd (omega arith)
+
+-- what is read behind other elements has the fault that it has alone
+pub after_fault : {E : Type 0} (xs : List E) (r : Result (List E) SpellingFault) (fault : SpellingFault) → after xs r ≡ Err fault → r ≡ Err fault
+after_fault xs (Ok ys) fault e = absurd (grind arith)
+after_fault xs (Err other) fault e = e
+
+-- one element more behind those that stood before keeps them
+pub kept_more : {X : Type 0} (n : ℕ) (old ys zs : List X) (x : X) → zs ≡ ys ++ x ∷ [] → n ≤ length ys → take n ys ≡ old → take n zs ≡ old
+kept_more n old ys zs x e h kept = ap (take n) e ∙ take-append-le n ys (x ∷ []) h ∙ kept
+
+-- a pair in front of a rest that is not at fault for want of memory is not so either
+in_front_memory : {E : Type 0} (place : ℕ) (o : Option E) (r : Result (List E) SpellingFault) → ¬ (r ≡ Err Memory) → ¬ (in_front place o r ≡ Err Memory)
+in_front_memory place None r h e = grind arith
+in_front_memory place (Some x) (Ok xs) h e = grind arith
+in_front_memory place (Some x) (Err fault) h e = h e
+
+-- want of memory is no fault of a text
+pub never_memory : {E : Type 0} (a : Alphabet E) (place : ℕ) (text : List ℕ) → ¬ (spelled_from a place text ≡ Err Memory)
+never_memory a place [] e = grind arith
+never_memory a place (first ∷ []) e = grind arith
+never_memory a place (first ∷ second ∷ rest) e =
+    in_front_memory place (a.named first second) (spelled_from a (place + 2) rest) (never_memory a (place + 2) rest) e

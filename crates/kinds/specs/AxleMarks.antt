@@ -1,6 +1,7 @@
 -- Axle marks as a kind: U0, S0 to S9 and D0 to D9.
 use Rattle.std.specs.Prelude.{ℕ, ◌+◌, ◌-◌, ◌%◌, if◌then◌else◌, not, ◌&&◌, List, [], ◌∷◌, Some, None, Option, ◌==◌, nat_lt}
-use Rattle.std.proofs.Common.{arith}
+use Rattle.std.proofs.Math.Nat.{zero-lt-suc}
+use Rattle.std.proofs.lemmas.Nat.{mod_below}
 use Rattle.kinds.specs.Alphabet.{Alphabet, within}
 use Rattle.kinds.specs.declared.byte.Byte.{Byte}
 use Rattle.kinds.specs.declared.mark.Band.{Band}
@@ -9,7 +10,7 @@ use Rattle.kinds.specs.declared.mark.Mark.TheVariants.{Unread, Single, Dual}
 
 -- the band n, for n below 10
 abbrev pub band : ℕ → Band
-band n = record { digit = n % 10; decimal = omega arith }
+band n = record { digit = n % 10; decimal = mod_below n 10 (zero-lt-suc 9) }
 
 -- a number is a band or none
 abbrev pub banded : ℕ → Option Band

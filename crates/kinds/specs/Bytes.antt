@@ -1,12 +1,13 @@
 -- Bytes as a kind: the code is the value, the pair two hexadecimal digits in upper case.
 use Rattle.std.specs.Prelude.{ℕ, ◌+◌, ◌-◌, ◌*◌, ◌%◌, if◌then◌else◌, Some, None, Option}
-use Rattle.std.proofs.Common.{arith}
+use Rattle.std.proofs.Math.Nat.{zero-lt-suc}
+use Rattle.std.proofs.lemmas.Nat.{mod_below}
 use Rattle.kinds.specs.Alphabet.{Alphabet, within}
 use Rattle.kinds.specs.declared.byte.Byte.{Byte}
 
 -- the byte of the value n, for n below 256
 abbrev pub byte : ℕ → Byte
-byte n = record { value = n % 256; fits = omega arith }
+byte n = record { value = n % 256; fits = mod_below n 256 (zero-lt-suc 255) }
 
 -- the value of a digit 0-9 or A-F
 abbrev pub hexadecimal : ℕ → Option ℕ

@@ -1,6 +1,6 @@
 pub mod Alphabet
 pub mod AxleMarks
 pub mod Bytes
-pub mod Elements
+pub mod Laws
 pub mod Readings
 pub mod Spelling

@@ -22,6 +22,11 @@ spelled_from a place (first ∷ second ∷ rest) = in_front place (a.named first
 abbrev pub spelled : {E : Type 0} → Alphabet E → List ℕ → Result (List E) SpellingFault
 spelled a text = spelled_from a 0 text
 
+-- elements that stood before, and behind them those that were read, unless there was a fault
+abbrev pub after : {E : Type 0} → List E → Result (List E) SpellingFault → Result (List E) SpellingFault
+after xs (Ok ys) = Ok (xs ++ ys)
+after xs (Err fault) = Err fault
+
 -- a fault as text
 abbrev pub fault_text : SpellingFault → List ℕ
 fault_text (Unnamed place) = codes "no element is named at " ++ decimal place

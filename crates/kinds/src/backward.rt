@@ -1,18 +1,21 @@
 // Any reading from its last element to its first.
 ghost use Rattle.std.specs.Prelude.{◌≡◌, reverse};
-ghost use Rattle.kinds.specs.Readings.{reverse_bounded};
+ghost use Rattle.kinds.specs.Readings.{FitsReading-reverse};
 
 use crate::reading::Reading;
 
+/// Any reading from its last element to its first.
+///
+/// It is no `Copy` type: a reading is handed over once.
 #[derive(Drop)]
 pub struct Backward<R> {
     forward: R,
 }
 
 impl<R: Reading> Backward<R> {
-    // A reading, which is handed over, from its last element on.
+    /// A reading, which is handed over, from its last element on.
     pub fn new(forward: R) -> Backward<R>
-        ensures { result.forward ≡ forward }
+        ensures { ⟦<Backward<R> as Reading>⟧.elements result ≡ reverse (R.elements forward) }
     {
         Backward { forward }
     }
@@ -23,7 +26,7 @@ impl<R: Reading> Reading for Backward<R> {
 
     ghost elements = { λ s. reverse (R.elements s.forward) };
 
-    ghost bounded = { λ s. reverse_bounded (R.elements s.forward) (R.bounded s.forward) };
+    ghost fits = { λ s. FitsReading-reverse (R.elements s.forward) (R.fits s.forward) };
 
     fn len(&self) -> u32 {
         self.forward.len()

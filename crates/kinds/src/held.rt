@@ -1,27 +1,26 @@
 // A reading of a lent list of elements, of any kind.
 ghost use Rattle.std.specs.Prelude.{◌≡◌};
-ghost use Rattle.kinds.specs.Readings.{Bounded, shown};
+ghost use Rattle.kinds.specs.Readings.{FitsReading, shown};
 
 use crate::kind::Kind;
-use crate::reading::Reading;
+use crate::reading::{Reading, showable};
 
-// The longest list that a reading can show.
-const LONGEST: usize = u32::MAX as usize;
-
-// Not `Copy`: a reading is handed over once.
+/// A reading of a slice of elements of any kind, such as those that a caller has made.
+///
+/// It is no `Copy` type: a reading is handed over once.
 #[derive(Drop)]
 pub struct Held<'a, K> {
     items: &'a [K],
-    ghost bounded: { Bounded items.now },
+    ghost fits: { FitsReading items.now },
 }
 
 impl<'a, K: Kind> Held<'a, K> {
-    // What a list holds, no further than a reading can show.
+    /// The reading of a slice, no further than its first 4,294,967,295 elements.
     pub fn new(items: &'a [K]) -> Held<'a, K>
-        ensures { result.items.now ≡ shown items.now }
+        ensures { ⟦<Held<'a, K> as Reading>⟧.elements result ≡ shown items.now }
     {
         Held {
-            items: &items[..LONGEST.min(items.len())],
+            items: showable(items),
         }
     }
 }
@@ -31,7 +30,7 @@ impl<'a, K: Kind> Reading for Held<'a, K> {
 
     ghost elements = { λ s. s.items.now };
 
-    ghost bounded = { λ s. s.bounded };
+    ghost fits = { λ s. s.fits };
 
     fn len(&self) -> u32 {
         self.items.len() as u32

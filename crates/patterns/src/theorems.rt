@@ -4,7 +4,7 @@ ghost use Rattle.patterns.specs.Patterns.{HitsExactly, MirroredAlike};
 ghost use Rattle.patterns.specs.Reader.{ReadsExactly, RefusesAtLongest};
 ghost use Rattle.patterns.specs.Search.{EndsLeast, FoundExactly, FoundFromBack};
 
-use kinds::kind::Kind;
+use kinds::Kind;
 
 /// A sequence hits a reading exactly when a placement exists.
 pub fn hits_exactly() -> bool

@@ -2,13 +2,7 @@
 use crate::complaint::Complaint;
 use crate::elements::elements_of;
 use crate::patterns::{Words, hit, read, shown};
-use kinds::backward::Backward;
-use kinds::byte::Byte;
-use kinds::held::Held;
-use kinds::kind::Kind;
-use kinds::mark::Mark;
-use kinds::marks::Marks;
-use kinds::reading::{Order, Reading, to_vec};
+use kinds::{Backward, Byte, Held, Kind, Mark, Marks, Order, Reading, copy_elements};
 use std::alloc::{AllocError, Global};
 
 // A command over elements of some kind, with its words.
@@ -22,29 +16,29 @@ enum Command<'l> {
 
 impl Command<'_> {
     // The answer over elements of a kind.
-    fn answer<K: Kind>(self, heap: Global) -> Result<String, Complaint> {
+    fn answer<K: Kind>(self, alloc: Global) -> Result<String, Complaint> {
         match self {
-            Command::Codes(order, elements) => codes::<K>(heap, order, elements),
-            Command::Read(text) => read::<K>(heap, text),
+            Command::Codes(order, elements) => codes::<K>(alloc, order, elements),
+            Command::Read(text) => read::<K>(alloc, text),
             Command::Show(sequence, fragment, index) => {
-                shown::<K>(heap, sequence, fragment, index)
+                shown::<K>(alloc, sequence, fragment, index)
             }
-            Command::Hit(sequence, elements) => hit::<K>(heap, sequence, elements),
+            Command::Hit(sequence, elements) => hit::<K>(alloc, sequence, elements),
         }
     }
 }
 
 // The answer to a line.
-pub fn answer(heap: Global, line: &str) -> Result<String, Complaint> {
+pub fn answer(alloc: Global, line: &str) -> Result<String, Complaint> {
     if line.is_empty() {
         return Err(Complaint::EmptyLine);
     }
-    let words: Vec<&str> = line.split(' ').collect(heap)?;
+    let words: Vec<&str> = line.split(' ').collect(alloc)?;
     if words.as_slice().contains(&"") {
         return Err(Complaint::EmptyWord);
     }
     let (kind, command) = match words.as_slice() {
-        ["marks", bytes] => return marks(heap, bytes),
+        ["marks", bytes] => return marks(alloc, bytes),
         ["codes", kind, elements] => (kind, Command::Codes(Order::Forward, elements)),
         ["backward", kind, elements] => (kind, Command::Codes(Order::Backward, elements)),
         ["read", kind, text] => (kind, Command::Read(text)),
@@ -61,47 +55,49 @@ pub fn answer(heap: Global, line: &str) -> Result<String, Complaint> {
         }
         _ => return Err(Complaint::UnknownCommand),
     };
-    of_kind(heap, kind, command)
+    of_kind(alloc, kind, command)
 }
 
 // A command's answer, over elements of the kind that a word names.
-fn of_kind(heap: Global, kind: &str, command: Command) -> Result<String, Complaint> {
+fn of_kind(alloc: Global, kind: &str, command: Command) -> Result<String, Complaint> {
     match kind {
-        "byte" => command.answer::<Byte>(heap),
-        "mark" => command.answer::<Mark>(heap),
+        "byte" => command.answer::<Byte>(alloc),
+        "mark" => command.answer::<Mark>(alloc),
         _ => Err(Complaint::UnknownKind),
     }
 }
 
 // The codes of elements, in an order.
-fn codes<K: Kind>(heap: Global, order: Order, word: &str) -> Result<String, Complaint> {
-    let elements: Vec<K> = elements_of(heap, word)?;
+fn codes<K: Kind>(alloc: Global, order: Order, word: &str) -> Result<String, Complaint> {
+    let elements: Vec<K> = elements_of(alloc, word)?;
     let held = Held::new(elements.as_slice());
     let text = match order {
-        Order::Forward => written_codes(heap, &held)?,
-        Order::Backward => written_codes(heap, &Backward::new(held))?,
+        Order::Forward => written_codes(alloc, &held)?,
+        Order::Backward => written_codes(alloc, &Backward::new(held))?,
     };
     Ok(text)
 }
 
 // The codes of a reading, separated by spaces, `-` for none.
-fn written_codes<R: Reading>(heap: Global, reading: &R) -> Result<String, AllocError> {
-    let elements = to_vec(heap, reading)?;
+fn written_codes<R: Reading>(alloc: Global, reading: &R) -> Result<String, AllocError> {
+    let mut elements = Vec::new(alloc);
+    copy_elements(reading, &mut elements)?;
     let codes: Vec<String> = elements
         .iter()
-        .map(|x| x.code().to_string(heap))
-        .try_collect(heap)?;
-    or_dash(codes.join(heap, " ")?)
+        .map(|x| x.code().to_string(alloc))
+        .try_collect(alloc)?;
+    or_dash(codes.join(alloc, " ")?)
 }
 
 // The pairs of the axle marks over bytes, run together, `-` for none.
-fn marks(heap: Global, word: &str) -> Result<String, Complaint> {
-    let bytes: Vec<Byte> = elements_of(heap, word)?;
-    let marks = to_vec(heap, &Marks::new(Held::new(bytes.as_slice())))?;
+fn marks(alloc: Global, word: &str) -> Result<String, Complaint> {
+    let bytes: Vec<Byte> = elements_of(alloc, word)?;
+    let mut marks = Vec::new(alloc);
+    copy_elements(&Marks::new(Held::new(bytes.as_slice())), &mut marks)?;
     let pairs: String = marks
         .iter()
-        .map(|mark| mark.to_string(heap))
-        .try_collect(heap)?;
+        .map(|mark| mark.to_string(alloc))
+        .try_collect(alloc)?;
     Ok(or_dash(pairs)?)
 }
 

@@ -1,8 +1,10 @@
-// Why a line has no answer.
-use kinds::spelling::SpellingFault;
+//! Why a line has no answer.
+use engine::{Fault, TooLong};
+use kinds::SpellingFault;
 use std::alloc::AllocError;
 use thiserror::Error;
 
+/// Why a line has no answer.
 #[derive(Debug, Drop, Error)]
 pub enum Complaint {
     #[error("no memory")]
@@ -21,6 +23,10 @@ pub enum Complaint {
     NumberOfWords,
     #[error(transparent)]
     Spelling(SpellingFault),
+    #[error(transparent)]
+    TooLong(#[from] TooLong),
+    #[error(transparent)]
+    Refused(#[from] Fault),
     #[error("unknown reference")]
     UnknownReference,
     #[error("not a number from 0 to 65535")]

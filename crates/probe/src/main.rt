@@ -1,17 +1,35 @@
-// For people who set up patterns and strips: one line of text in, one line out.
+//! For people who set up patterns and strips: one line of text in, one line out.
 #![tactic(auto)]
 
 use std::alloc::{AllocError, Global};
-use std::io;
-use std::io::{BufRead, BufReader};
+use std::env;
+use std::io::{BufRead, BufReader, ErrorKind};
+use std::process::ExitCode;
 
 mod answers;
 mod complaint;
 mod elements;
+mod failure;
 mod patterns;
 
 use answers::answer;
 use complaint::Complaint;
+use failure::Failure;
+
+const USAGE: &str = "\
+usage: probe [--help]
+
+Answers each line of standard input with one line.
+
+  codes KIND ELEMENTS                               codes of the elements
+  backward KIND ELEMENTS                            codes from the last element to the first
+  marks BYTES                                       axle marks over bytes
+  read KIND TEXT                                    number of a pattern's fragments
+  show KIND REFERENCE LO HI TEXT FRAGMENT INDEX     break, lead, anchor length and shift
+  hit KIND REFERENCE LO HI TEXT ELEMENTS            hit or miss
+
+KIND is byte or mark. ELEMENTS and BYTES are pairs run together, - for none. REFERENCE is B
+(from the front), E (from the back) or V (anywhere, with the offsets 0 0).";
 
 // A line without its end, as text.
 fn text_of(line: &[u8]) -> Result<&str, Complaint> {
@@ -24,30 +42,58 @@ fn text_of(line: &[u8]) -> Result<&str, Complaint> {
 }
 
 // The answer to a line that was read, with its end.
-fn respond(heap: Global, line: &[u8]) -> Result<String, Complaint> {
-    answer(heap, text_of(line)?)
+fn respond(alloc: Global, line: &[u8]) -> Result<String, Complaint> {
+    answer(alloc, text_of(line)?)
 }
 
 // What is printed for a line: the answer, or what is wrong with the line.
-fn reply(heap: Global, line: &[u8]) -> Result<String, AllocError> {
-    match respond(heap, line) {
+fn reply(alloc: Global, line: &[u8]) -> Result<String, AllocError> {
+    match respond(alloc, line) {
         Ok(text) => Ok(text),
         Err(Complaint::Memory(e)) => Err(e),
-        Err(complaint) => format!(in heap; "error: {complaint}"),
+        Err(Complaint::Refused(fault)) => fault.line().to_string(alloc),
+        Err(complaint) => format!(in alloc; "error: {complaint}"),
     }
 }
 
-fn main(rt: HostRuntime) -> io::Result<()> {
-    let heap = rt.alloc();
-    let mut input = BufReader::new(heap, rt.stdin())?;
-    let mut line = Vec::new(heap);
+// Answers each line of the input.
+fn answer_lines(rt: &HostRuntime) -> Result<(), Failure> {
+    let alloc = rt.alloc();
+    let mut input = BufReader::new(alloc, rt.stdin()).map_err(Failure::Input)?;
+    let mut line = Vec::new(alloc);
     // One buffer for all lines, which `lines` would make anew for each.
     for _ in 0..u64::MAX {
         line.clear();
-        if input.read_until(b'\n', &mut line)? == 0 {
+        let read = input.read_until(b'\n', &mut line);
+        if read.map_err(Failure::Input)? == 0 {
             break;
         }
-        rt.println(reply(heap, line.as_slice())?.as_str())?;
+        let reply = reply(alloc, line.as_slice())?;
+        rt.println(reply.as_str()).map_err(Failure::Output)?;
     }
     Ok(())
+}
+
+// Does what the arguments ask for.
+fn run(rt: &HostRuntime) -> Result<(), Failure> {
+    let args = env::args(rt).map_err(Failure::Input)?;
+    let args: Vec<String> = args.skip(1).collect(rt.alloc())?;
+    match args.as_slice() {
+        [] => answer_lines(rt),
+        [help] if help.as_str() == "--help" => rt.println(USAGE).map_err(Failure::Output),
+        _ => Err(Failure::Arguments),
+    }
+}
+
+fn main(rt: HostRuntime) -> ExitCode {
+    match run(&rt) {
+        Ok(()) => ExitCode::SUCCESS,
+        // Whoever read the answers has read enough.
+        Err(Failure::Output(e)) if e.kind() == ErrorKind::BrokenPipe => ExitCode::SUCCESS,
+        Err(failure) => {
+            // Where that cannot be written either, the status tells of it.
+            let _ = rt.eprintln(format_args!("probe: {failure}"));
+            ExitCode::FAILURE
+        }
+    }
 }

@@ -1,22 +1,17 @@
-// The commands on pattern texts.
+//! The commands on pattern texts.
 use crate::complaint::Complaint;
 use crate::elements::elements_of;
-use engine::limits::fragment_count;
-use engine::text;
-use engine::text::{checked, show};
-use kinds::byte::Byte;
-use kinds::held::Held;
-use kinds::kind::Kind;
-use patterns::Reference;
+use engine::{PatternText, Reference, Sequence};
+use kinds::{Byte, Held, Kind};
 use std::alloc::Global;
 use std::str::FromStr;
 
-// A sequence as a line gives it: its words.
+/// A sequence as a line gives it: its words.
 #[derive(Clone, Copy)]
 pub struct Words<'l> {
     reference: &'l str,
-    lo: &'l str,
-    hi: &'l str,
+    least: &'l str,
+    most: &'l str,
     text: &'l str,
 }
 
@@ -24,97 +19,91 @@ impl<'l> TryFrom<&[&'l str]> for Words<'l> {
     type Error = Complaint;
 
     fn try_from(words: &[&'l str]) -> Result<Words<'l>, Complaint> {
-        let [reference, lo, hi, text] = words else {
+        let [reference, least, most, text] = words else {
             return Err(Complaint::NumberOfWords);
         };
         Ok(Words {
             reference,
-            lo,
-            hi,
+            least,
+            most,
             text,
         })
     }
 }
 
 // The letter of a reference.
-struct Letter(Reference);
+#[derive(Clone, Copy)]
+enum Letter {
+    B,
+    E,
+    V,
+}
 
 impl FromStr for Letter {
     type Err = Complaint;
 
     fn from_str(word: &str) -> Result<Letter, Complaint> {
         match word {
-            "B" => Ok(Letter(Reference::Front)),
-            "E" => Ok(Letter(Reference::Back)),
-            "V" => Ok(Letter(Reference::Anywhere)),
+            "B" => Ok(Letter::B),
+            "E" => Ok(Letter::E),
+            "V" => Ok(Letter::V),
             _ => Err(Complaint::UnknownReference),
         }
     }
 }
 
 impl Words<'_> {
-    // Its reference and offsets, as a record has them.
-    fn offsets(self) -> Result<Offsets, Complaint> {
-        let Letter(reference) = self.reference.parse()?;
-        let lo = number_of(self.lo)?;
-        let hi = number_of(self.hi)?;
-        match reference {
-            Reference::Anywhere if lo > 0 || hi > 0 => Err(Complaint::OffsetsAnywhere),
-            Reference::Front | Reference::Back if lo > hi => Err(Complaint::OffsetsCrossed),
-            _ => Ok(Offsets { reference, lo, hi }),
+    // Its reference, with offsets as a record has them.
+    fn reference(self) -> Result<Reference, Complaint> {
+        let letter = self.reference.parse()?;
+        let least = number_of(self.least)?;
+        let most = number_of(self.most)?;
+        match letter {
+            Letter::V if least > 0 || most > 0 => Err(Complaint::OffsetsAnywhere),
+            Letter::V => Ok(Reference::Anywhere),
+            Letter::B | Letter::E if least > most => Err(Complaint::OffsetsCrossed),
+            Letter::B => Ok(Reference::Front { least, most }),
+            Letter::E => Ok(Reference::Back { least, most }),
         }
     }
 }
 
-// The number of a text's fragments, or its refusal.
-pub fn read<K: Kind>(heap: Global, text: &str) -> Result<String, Complaint> {
-    match checked::<K>(heap, 1, text.as_bytes()) {
-        Ok(pattern) => {
-            let count = fragment_count(&pattern);
-            Ok(format!(in heap; "ok {count}")?)
-        }
-        Err(failure) => Ok(failure.to_line(heap)?),
-    }
+// A text as the first sequence, compiled; its refusal is an error.
+fn compiled<K: Kind>(reference: Reference, text: &str) -> Result<Sequence<K>, Complaint> {
+    let text = PatternText::try_from(text.as_bytes())?;
+    Ok(Sequence::compile(1, reference, text)?)
 }
 
-// The numbers of a text's fragment, or the text's refusal.
+/// The number of a text's fragments.
+pub fn read<K: Kind>(alloc: Global, text: &str) -> Result<String, Complaint> {
+    let count = compiled::<K>(Reference::Anywhere, text)?.fragment_count();
+    Ok(format!(in alloc; "ok {count}")?)
+}
+
+/// The numbers of a text's fragment.
 pub fn shown<K: Kind>(
-    heap: Global,
-    sequence: Words,
+    alloc: Global,
+    words: Words,
     fragment: &str,
     index: &str,
 ) -> Result<String, Complaint> {
-    let Offsets { reference, lo, .. } = sequence.offsets()?;
+    let reference = words.reference()?;
     let fragment = number_of(fragment)?;
     let index = index_of(index)?;
-    match show::<K>(
-        heap,
-        reference,
-        lo,
-        sequence.text.as_bytes(),
-        usize::from(fragment),
-        index,
-    ) {
-        Ok(Some((gap, lead, len, shift))) => Ok(format!(in heap; "{gap} {lead} {len} {shift}")?),
-        Ok(None) => Ok(String::from_str(heap, "none")?),
-        Err(failure) => Ok(failure.to_line(heap)?),
+    let sequence = compiled::<K>(reference, words.text)?;
+    match sequence.numbers(usize::from(fragment), index) {
+        Some((gap, lead, len, shift)) => Ok(format!(in alloc; "{gap} {lead} {len} {shift}")?),
+        None => Ok(String::from_str(alloc, "none")?),
     }
 }
 
-// Whether a sequence hits the reading of the elements, or the text's refusal.
-pub fn hit<K: Kind>(heap: Global, sequence: Words, elements: &str) -> Result<String, Complaint> {
-    let offsets = sequence.offsets()?;
-    let elements: Vec<K> = elements_of(heap, elements)?;
-    match text::hit(
-        heap,
-        offsets,
-        sequence.text.as_bytes(),
-        &Held::new(elements.as_slice()),
-    ) {
-        Ok(true) => Ok(String::from_str(heap, "hit")?),
-        Ok(false) => Ok(String::from_str(heap, "miss")?),
-        Err(failure) => Ok(failure.to_line(heap)?),
-    }
+/// Whether a sequence hits the reading of the elements.
+pub fn hit<K: Kind>(alloc: Global, words: Words, elements: &str) -> Result<String, Complaint> {
+    let reference = words.reference()?;
+    let elements: Vec<K> = elements_of(alloc, elements)?;
+    let sequence = compiled::<K>(reference, words.text)?;
+    let hits = sequence.hits(&Held::new(elements.as_slice()));
+    Ok(String::from_str(alloc, if hits { "hit" } else { "miss" })?)
 }
 
 // An offset, or the number of a fragment.

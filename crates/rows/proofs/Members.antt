@@ -49,10 +49,10 @@ bit_after_set words i word j x h same other =
     (λ ne. ap (λ w. bit w (j % 64)) (get_or-set_other words i (j / 64) word 0 ne) ∙ other ne) (cases_eq (j / 64) i)
 
 -- one bit more in the word that k falls in
-pub member_with : (row with : Row) (k : ℕ) → length row.words ≡ 16 → k < 1024
+pub member_inserted : (row with : Row) (k : ℕ) → length row.words ≡ 16 → k < 1024
     → with.words ≡ set row.words (k / 64) (bit_or (get_or row.words (k / 64) 0) ((1 * 2 ^ (k % 64)) % 2 ^ 64))
     → (j : ℕ) → member with j ≡ (member row j || (ltb k 1024 && eqb j k))
-member_with row with k len h written = by_words with more (λ j l. ap (λ words. bit (get_or words (j / 64) 0) (j % 64)) written ∙ below j l) past
+member_inserted row with k len h written = by_words with more (λ j l. ap (λ words. bit (get_or words (j / 64) 0) (j % 64)) written ∙ below j l) past
   where
     old : ℕ
     old = get_or row.words (k / 64) 0

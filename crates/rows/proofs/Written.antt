@@ -95,50 +95,50 @@ shifted_all {old = old} row {words = words} {end = end} by w is lower same =
         bit_unwritten (j / 64) j w (omega arith) (inr l) refl ∙ member_unused old j (omega arith)
         ∙ sym (and_right (ltb j 1024) (moved old by j) (moved_past old by j (omega arith)))
 
--- what joins a row that is moved on to its words in use
-abbrev pub joins : Row → ℕ → ℕ → Bool
-joins old by j = member old j || (ltb j (64 * old.used) && moved old by j)
+-- a member of the row, or of what it is moved on to within the words in use
+abbrev pub united_moved : Row → ℕ → ℕ → Bool
+united_moved old by j = member old j || (ltb j (64 * old.used) && moved old by j)
 
 -- a word with the row's own bits and those that are moved to it
-pub join_word : {old : Row} (row : Row) {low : ℕ} (by i word : ℕ) → Written old row.words low old.used (joins old by) → i < low → i < old.used
+pub united_moved_word : {old : Row} (row : Row) {low : ℕ} (by i word : ℕ) → Written old row.words low old.used (united_moved old by) → i < low → i < old.used
     → ((j : ℕ) → j / 64 ≡ i → bit word (j % 64) ≡ moved row by j)
-    → (j : ℕ) → j / 64 ≡ i → bit (bit_or (get_or row.words i 0) word) (j % 64) ≡ joins old by j
-join_word {old = old} row by i word w h l bits j e =
+    → (j : ℕ) → j / 64 ≡ i → bit (bit_or (get_or row.words i 0) word) (j % 64) ≡ united_moved old by j
+united_moved_word {old = old} row by i word w h l bits j e =
     let few = old.within in
     bit_of_or (get_or row.words i 0) word (j % 64)
     ∙ ap₂ ◌||◌ (bit_unwritten i j w (omega arith) (inl h) e)
     (moved_as_old row by i word w h bits j e ∙ ap (λ t. t && moved old by j) (sym (lt-ltb j (64 * old.used) (omega arith))))
 
--- nothing joins a word before the first that it is moved to, nor one that is not in use
-joins_other : (old : Row) (by j : ℕ) → (j / 64 < by / 64) ⊎ (old.used ≤ j / 64) → member old j ≡ joins old by j
-joins_other old by j (inl h) = let short = moved_short old by j (omega arith) in grind (arith, nat_tests)
-joins_other old by j (inr h) = let e = le-ltb j (64 * old.used) (omega arith) in grind (arith, nat_tests)
+-- no member comes to a word before the first that it is moved to, nor one that is not in use
+united_moved_other : (old : Row) (by j : ℕ) → (j / 64 < by / 64) ⊎ (old.used ≤ j / 64) → member old j ≡ united_moved old by j
+united_moved_other old by j (inl h) = let short = moved_short old by j (omega arith) in grind (arith, nat_tests)
+united_moved_other old by j (inr h) = let e = le-ltb j (64 * old.used) (omega arith) in grind (arith, nat_tests)
 
--- so that nothing joins a row whose words in use end before it
-pub joins_none : (old : Row) (by : ℕ) → old.used ≤ by / 64 → (j : ℕ) → member old j ≡ joins old by j
-joins_none old by h j = joins_other old by j (⊎_elim (λ l. inl l) (λ l. inr (omega arith)) (cases_lt (j / 64) (by / 64)))
+-- so that no member comes to a row whose words in use end before it
+pub united_moved_none : (old : Row) (by : ℕ) → old.used ≤ by / 64 → (j : ℕ) → member old j ≡ united_moved old by j
+united_moved_none old by h j = united_moved_other old by j (⊎_elim (λ l. inl l) (λ l. inr (omega arith)) (cases_lt (j / 64) (by / 64)))
 
--- a row to which all have been joined
-pub joined_all : {old : Row} (row : Row) (by : ℕ) → Written old row.words (by / 64) old.used (joins old by) → (j : ℕ) → member row j ≡ joins old by j
-joined_all {old = old} row by w =
-    written_all row w (λ j h. joins_other old by j)
-    (λ j h. let few = old.within in sym (joins_other old by j (inr (omega arith))) ∙ member_past old j h)
+-- a row whose words have all taken on what is moved to them
+pub united_moved_all : {old : Row} (row : Row) (by : ℕ) → Written old row.words (by / 64) old.used (united_moved old by) → (j : ℕ) → member row j ≡ united_moved old by j
+united_moved_all {old = old} row by w =
+    written_all row w (λ j h. united_moved_other old by j)
+    (λ j h. let few = old.within in sym (united_moved_other old by j (inr (omega arith))) ∙ member_past old j h)
 
 -- the members of either of two rows
-abbrev pub joint : Row → Row → ℕ → Bool
-joint a b j = member a j || member b j
+abbrev pub united : Row → Row → ℕ → Bool
+united a b j = member a j || member b j
 
 -- a word with the bits of both
-pub joint_word : {a : Row} (b : Row) {words : List ℕ} {i : ℕ} → Written a words 0 i (joint a b) → i < 16
-    → (j : ℕ) → j / 64 ≡ i → bit (bit_or (get_or words i 0) (get_or b.words i 0)) (j % 64) ≡ joint a b j
-joint_word b {words = words} {i = i} w h j e =
+pub united_word : {a : Row} (b : Row) {words : List ℕ} {i : ℕ} → Written a words 0 i (united a b) → i < 16
+    → (j : ℕ) → j / 64 ≡ i → bit (bit_or (get_or words i 0) (get_or b.words i 0)) (j % 64) ≡ united a b j
+united_word b {words = words} {i = i} w h j e =
     bit_of_or (get_or words i 0) (get_or b.words i 0) (j % 64)
     ∙ ap₂ ◌||◌ (bit_unwritten i j w h (inr (omega arith)) e)
     (ap (λ k. bit (get_or b.words k 0) (j % 64)) (sym e) ∙ sym (member_bit b j (omega arith)))
 
--- a row whose words have all been joined
-pub joint_all : {a : Row} (b row : Row) {end : ℕ} → Written a row.words 0 end (joint a b) → b.used ≤ end → (j : ℕ) → member row j ≡ joint a b j
-joint_all {a = a} b row w all =
+-- a row whose words have all taken on those of the other
+pub united_all : {a : Row} (b row : Row) {end : ℕ} → Written a row.words 0 end (united a b) → b.used ≤ end → (j : ℕ) → member row j ≡ united a b j
+united_all {a = a} b row w all =
     written_all row w (λ j h. ⊎_elim (λ l. absurd (omega arith)) (λ l. let none = member_unused b j (omega arith) in grind (arith, nat_tests)))
     (λ j h. ap₂ ◌||◌ (member_past a j h) (member_past b j h))
 

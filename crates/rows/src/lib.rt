@@ -10,7 +10,8 @@ const WIDTH: usize = 1024;
 // How many words hold them.
 const WORDS: usize = WIDTH / 64;
 
-// A set of offsets below 1,024: offset k is bit k % 64 of word k / 64. The words from `used` on are 0, and no loop goes over
+/// A set of offsets below 1,024, its members.
+// Offset k is bit k % 64 of word k / 64. The words from `used` on are 0, and no loop goes over
 // them.
 #[derive(Clone, Copy, Debug)]
 pub struct Row {
@@ -23,8 +24,8 @@ pub struct Row {
 impl Row {
     ghost use Rattle.rows.specs.Rows.{member, moved, some_distance, FirstFrom, NoneFrom};
 
-    // The set with no member.
-    pub fn none() -> Row
+    /// The set with no member.
+    pub fn new() -> Row
         ensures { (j : ℕ) → member result j ≡ false }
     {
         Row {
@@ -33,26 +34,25 @@ impl Row {
         }
     }
 
-    // The set with the member k too, where k is below 1,024.
-    pub fn with(mut self, k: usize) -> Row
-        ensures { (j : ℕ) → member result j ≡ (member self j || (nat_lt k 1024 && j == k)) }
+    /// Adds the member k, where it is below 1,024. Any other is left out.
+    pub fn insert(&mut self, k: usize)
+        ensures { (j : ℕ) → member self.new j ≡ (member self.old j || (nat_lt k 1024 && j == k)) }
     {
         if k < WIDTH {
             self.used = self.used.max(k / 64 + 1);
             self.words[k / 64] |= 1 << (k % 64);
         }
-        self
     }
 
-    // Whether k is a member.
-    pub fn has(&self, k: usize) -> bool
+    /// Whether k is a member.
+    pub fn contains(&self, k: usize) -> bool
         ensures { result ≡ member self.now k }
     {
         k < WIDTH && self.words[k / 64] >> (k % 64) & 1 == 1
     }
 
-    // Adds the members of another row.
-    pub fn join(&mut self, other: &Row)
+    /// Adds the members of another row.
+    pub fn union(&mut self, other: &Row)
         ensures { (j : ℕ) → member self.new j ≡ (member self.old j || member other.now j) }
     {
         self.used = self.used.max(other.used);
@@ -72,12 +72,13 @@ impl Row {
             .map_or(0, |last| last + 1);
     }
 
-    // Moves each member on by `by`. A word comes from words at or below it, so the last word is written first.
+    /// Moves each member on by `by`. Those that come to 1,024 and past it are gone.
+    // A word comes from words at or below it, so the last word is written first.
     pub fn shift(&mut self, by: usize)
         ensures { (j : ℕ) → member self.new j ≡ (nat_lt j 1024 && moved self.old by j) }
     {
         if by >= WIDTH {
-            *self = Row::none();
+            *self = Row::new();
             return;
         }
         let far = by / 64;
@@ -92,8 +93,9 @@ impl Row {
     }
 
     // Adds each member moved on by `by`, those that come to stand in the words in use.
-    fn join_moved(&mut self, by: usize)
-        ensures joined { (j : ℕ) → member self.new j ≡ (member self.old j || (nat_lt j (64 * self.old.used) && moved self.old by j)) }
+    fn union_moved(&mut self, by: usize)
+        ensures added { (j : ℕ) → member self.new j
+            ≡ (member self.old j || (nat_lt j (64 * self.old.used) && moved self.old by j)) }
         ensures used { self.new.used ≡ self.old.used }
     {
         let far = by / 64;
@@ -106,27 +108,32 @@ impl Row {
         }
     }
 
-    // Moves each member on by each distance from 0 to `reach`: what is moved by 0 to n, moved on by at most n + 1 more.
+    // Moves each member on by each distance from 0 to `reach`: what is moved by 0 to n, moved on by at
+    // most n + 1 more.
     fn smear(&mut self, reach: usize)
-        ensures { (j : ℕ) → member self.new j ≡ (nat_lt j 1024 && some_distance self.old 0 reach j) }
+        ensures { (j : ℕ) → member self.new j
+            ≡ (nat_lt j 1024 && some_distance self.old 0 reach j) }
     {
         self.used = (self.used + reach / 64 + 1).min(WORDS);
         let mut done = 0;
-        // No `for`: the step grows from turn to turn, and a counted loop would join up to 1,023 times in place of 10.
+        // No `for`: the step grows from turn to turn, and a counted loop would take up to 1,023 turns in
+        // place of 10.
         while done < reach {
             let step = (done + 1).min(reach - done);
-            self.join_moved(step);
+            self.union_moved(step);
             done += step;
         }
         self.trim();
     }
 
-    // Moves each member on by each distance from `least` to `most`.
+    /// Moves each member on by each distance from `least` to `most`, both included. Those that come
+    /// to 1,024 and past it are gone. Where `least` is above `most`, none is left.
     pub fn widen(&mut self, least: usize, most: usize)
-        ensures { (j : ℕ) → member self.new j ≡ (nat_lt j 1024 && some_distance self.old least most j) }
+        ensures { (j : ℕ) → member self.new j
+            ≡ (nat_lt j 1024 && some_distance self.old least most j) }
     {
         let Some(reach) = most.checked_sub(least) else {
-            *self = Row::none();
+            *self = Row::new();
             return;
         };
         if least > 0 {
@@ -135,8 +142,8 @@ impl Row {
         self.smear(reach.min(WIDTH - 1));
     }
 
-    // Leaves out the members for which a question is answered no.
-    pub fn keep<Q: Question>(&mut self, question: &Q)
+    /// Leaves out the members for which a question is answered no.
+    pub fn retain<Q: Question>(&mut self, question: &Q)
         ensures { (j : ℕ) → member self.new j ≡ (member self.old j && Q.asked question.now j) }
     {
         for i in 0..self.used {
@@ -147,7 +154,7 @@ impl Row {
         self.trim();
     }
 
-    // Leaves out the members past `last`.
+    /// Leaves out the members past `last`.
     pub fn cut(&mut self, last: usize)
         ensures { (j : ℕ) → member self.new j ≡ (nat_le j last && member self.old j) }
     {
@@ -159,7 +166,7 @@ impl Row {
         }
     }
 
-    // The least member that is at least `from`.
+    /// The least member that is at least `from`, if there is one.
     pub fn first_from(&self, from: usize) -> Option<usize>
         ensures { MatchOption result (NoneFrom self.now from) (FirstFrom self.now from) }
     {
@@ -175,9 +182,11 @@ impl Row {
         Some(64 * i + self.words[i].trailing_zeros() as usize)
     }
 
-    // Whether there is no member.
-    pub fn is_none(&self) -> bool
-        ensures { MatchBool result ((j : ℕ) → member self.now j ≡ false) ((j : ℕ) × (member self.now j ≡ true)) }
+    /// Whether there is no member.
+    pub fn is_empty(&self) -> bool
+        ensures { MatchBool result
+            ((j : ℕ) → member self.now j ≡ false)
+            ((j : ℕ) × (member self.now j ≡ true)) }
     {
         self.first_from(0).is_none()
     }
@@ -185,7 +194,9 @@ impl Row {
 
 // Where the first word that is not 0 stands.
 fn first_nonzero(words: &[u64]) -> Option<usize>
-    ensures { MatchOption result ((k : ℕ) → k < length words.now → slice_index words.now k ≡ 0) (FirstNonzero words.now) }
+    ensures { MatchOption result
+        ((k : ℕ) → k < length words.now → slice_index words.now k ≡ 0)
+        (FirstNonzero words.now) }
 {
     words.iter().position(|word| *word != 0)
 }
@@ -193,22 +204,26 @@ fn first_nonzero(words: &[u64]) -> Option<usize>
 // The word `high` moved up by `bits`, with the top bits of the word below it, `low`, moved in.
 fn carried(low: u64, high: u64, bits: usize) -> u64
     requires { bits < 64 }
-    ensures { (b : ℕ) → bit result b ≡ (nat_lt b 64 && (if nat_lt b bits then bit low (64 - bits + b) else bit high (b - bits))) }
+    ensures { (b : ℕ) → bit result b
+        ≡ (nat_lt b 64
+        && (if nat_lt b bits then bit low (64 - bits + b) else bit high (b - bits))) }
 {
     high << bits | low >> 1 >> (63 - bits)
 }
 
-// A question about offsets. It is no closure: one is taken only under a `requires`, which no public call has here, and its
+/// A question about offsets, which is answered yes or no for each.
+// It is no closure: one is taken only under a `requires`, which no public call has here, and its
 // answers are told only as a relation.
 pub trait Question {
     ghost asked: { Self → ℕ → Bool };
 
+    /// Whether the answer for an offset is yes.
     fn ask(&self, offset: usize) -> bool
         ensures { result ≡ asked self.now offset };
 }
 
-// The bits of a word for which a question is answered yes, where bit 0 stands for the offset `base`. It is asked from the
-// highest bit that is set down to the lowest.
+// The bits of a word for which a question is answered yes, where bit 0 stands for the offset `base`.
+// It is asked from the highest bit that is set down to the lowest.
 fn answered<Q: Question>(word: u64, base: usize, question: &Q) -> u64
     requires held { 0 < word }
     requires low { base ≤ 960 }
@@ -241,6 +256,15 @@ mod tests {
         }
     }
 
+    // The row of these members.
+    fn row_of(members: &[usize]) -> Row {
+        let mut row = Row::new();
+        for k in members {
+            row.insert(*k);
+        }
+        row
+    }
+
     // The row after a change.
     fn after<C: FnOnce(&mut Row)>(mut row: Row, change: C) -> Row
         requires { C.IsAlwaysCallable change }
@@ -258,44 +282,46 @@ mod tests {
     #[test]
     fn holds_what_is_added(rt: HostRuntime) {
         for k in [0, 63, 64, 1023] {
-            let row = Row::none().with(k);
-            assert!(rt; row.has(k) && !row.is_none());
+            let row = row_of(&[k]);
+            assert!(rt; row.contains(k) && !row.is_empty());
             assert_eq!(rt; row.first_from(0), Some(k));
             assert_eq!(rt; row.first_from(k), Some(k));
             assert_eq!(rt; row.first_from(k + 1), None);
         }
-        assert!(rt; Row::none().with(1024).is_none() && !Row::none().has(1024));
+        assert!(rt; row_of(&[1024]).is_empty() && !Row::new().contains(1024));
     }
 
     // Bits go on into the next word, and past 1,023 they are gone.
     #[test]
     fn shifts_across_words(rt: HostRuntime) {
-        let row = Row::none().with(0).with(63);
-        assert!(rt; same(after(row, |r| r.shift(1)), Row::none().with(1).with(64)));
-        assert!(rt; same(after(row, |r| r.shift(64)), Row::none().with(64).with(127)));
-        assert!(rt; same(after(row, |r| r.shift(1023)), Row::none().with(1023)));
-        assert!(rt; after(row, |r| r.shift(1024)).is_none());
+        let row = row_of(&[0, 63]);
+        assert!(rt; same(after(row, |r| r.shift(1)), row_of(&[1, 64])));
+        assert!(rt; same(after(row, |r| r.shift(64)), row_of(&[64, 127])));
+        assert!(rt; same(after(row, |r| r.shift(1023)), row_of(&[1023])));
+        assert!(rt; after(row, |r| r.shift(1024)).is_empty());
     }
 
     // Both ends of the range of distances count.
     #[test]
     fn spreads_from_the_least_to_the_most(rt: HostRuntime) {
-        let row = Row::none().with(63);
-        assert!(rt; same(after(row, |r| r.widen(0, 1)), row.with(64)));
+        let row = row_of(&[63]);
+        assert!(rt; same(after(row, |r| r.widen(0, 1)), row_of(&[63, 64])));
         let cut = after(after(row, |r| r.widen(1, 1024)), |r| r.cut(1023));
         assert!(rt; same(after(row, |r| r.widen(1, 960)), cut));
         assert!(rt;
-            !after(row, |r| r.widen(1, 959)).has(1023) && after(row, |r| r.widen(1, 960)).has(1023)
+            !after(row, |r| r.widen(1, 959)).contains(1023)
+                && after(row, |r| r.widen(1, 960)).contains(1023)
         );
         assert!(rt;
-            after(row, |r| r.widen(1, 0)).is_none() && after(row, |r| r.widen(961, 1024)).is_none()
+            after(row, |r| r.widen(1, 0)).is_empty()
+                && after(row, |r| r.widen(961, 1024)).is_empty()
         );
     }
 
     // The last offset stays.
     #[test]
     fn cuts_after_the_last(rt: HostRuntime) {
-        let first = Row::none().with(0);
+        let first = row_of(&[0]);
         let row = after(first, |r| r.widen(0, 1023));
         for last in [0, 63, 64, 1023] {
             assert!(rt;
@@ -311,11 +337,11 @@ mod tests {
     // Only the members for which the answer is no are left out.
     #[test]
     fn keeps_what_is_answered_yes(rt: HostRuntime) {
-        let row = Row::none().with(0).with(63).with(64).with(1023);
-        assert!(rt; same(after(row, |r| r.keep(&Other { than: 1 })), row));
+        let row = row_of(&[0, 63, 64, 1023]);
+        assert!(rt; same(after(row, |r| r.retain(&Other { than: 1 })), row));
         for k in [0, 63, 64, 1023] {
-            let left = after(row, |r| r.keep(&Other { than: k }));
-            assert!(rt; !left.has(k) && same(left.with(k), row));
+            let left = after(row, |r| r.retain(&Other { than: k }));
+            assert!(rt; !left.contains(k) && same(after(left, |r| r.insert(k)), row));
         }
     }
 }

@@ -50,6 +50,6 @@ pub returns-in_err-base : goal.returns-in_err-base
 returns-in_err-base g c a sides stands =
     let xs = codes_of g.R.Element.Kind.alphabet (g.R.Reading.elements c.args.reading.now) in
     let inside = anchor_inside (held c.args.sequence.now.pattern) (held c.args.sequence.now.mirror) c.args.fragment.now a sides xs c.args.place stands c.args.starts in
-    let few = g.R.Reading.bounded c.args.reading.now in
+    let few = g.R.Reading.fits c.args.reading.now in
     let many = length-map (g.R.Reading.elements c.args.reading.now) g.R.Element.Kind.alphabet.code in
     absurd (omega (arith, c.in_err-base.ensures))

@@ -22,7 +22,7 @@ returns-then-not-is_bounded g c f s =
 pub returns-in_err-place : goal.returns-in_err-place
 returns-in_err-place g c f s =
     let all = g.R.Reading.elements c.args.reading.now in
-    let few = g.R.Reading.bounded c.args.reading.now in
+    let few = g.R.Reading.fits c.args.reading.now in
     let many = length-map (g.R.Reading.elements c.args.reading.now) g.R.Element.Kind.alphabet.code in
     c.from_residual.ensures
     ∙ none_begins c.args.sequence.now c.args.fragment.now f s c.args.starts (codes_of g.R.Element.Kind.alphabet all) (omega arith) c.in_err-place.ensures
@@ -30,7 +30,7 @@ returns-in_err-place g c f s =
 pub loop-fit-init : goal.loop-fit-init
 loop-fit-init g c = (
   λ f s.
-      let few = g.R.Reading.bounded c.args.reading.now in
+      let few = g.R.Reading.fits c.args.reading.now in
       let many = length-map (g.R.Reading.elements c.args.reading.now) g.R.Element.Kind.alphabet.code in
       best_begins c.args.sequence.now c.args.fragment.now f s c.args.starts
       (codes_of g.R.Element.Kind.alphabet (g.R.Reading.elements c.args.reading.now)) c.in_ok-place.place c.last_place-last.result c.in_ok-place.ensures (omega arith) c.last_place-last.ensures,
@@ -43,7 +43,7 @@ pub returns-in_err-place-2 : goal.returns-in_err-place-2
 returns-in_err-place-2 g c f s =
     let xs = codes_of g.R.Element.Kind.alphabet (g.R.Reading.elements c.args.reading.now) in
     let codes = c.as_slice-codes.ensures.value in
-    let few = g.R.Reading.bounded c.args.reading.now in
+    let few = g.R.Reading.fits c.args.reading.now in
     let many = length-map (g.R.Reading.elements c.args.reading.now) g.R.Element.Kind.alphabet.code in
     let before = next_before c.args.sequence.now c.args.fragment.now f s c.args.starts xs _ codes c.loop-fit.place c.loop-fit.last c.next_fit_up_to.result c.next_fit_up_to.ensures.first c.in-Some.fit c.in-Some.is (omega arith) in
     absurd (omega (arith, c.in_err-place-2.ensures))

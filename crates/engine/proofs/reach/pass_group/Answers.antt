@@ -20,7 +20,7 @@ loop-run-preserved g c =
     let rs = c.args.runs.now in
     let i = c.loop-run.run-index in
     let none : Run = record { start = 0; len = 0 } in
-    subst (λ runs. Stepped (group runs) c.args.row.now all c.join.new.self) (sym (map_more f rs i none c.loop-run-test.true))
-    (group_more (map f (take i rs)) (f (get_or rs i none)) c.args.row.now all c.loop-run.all c.pass.new.row c.join.new.self c.loop-run.invariant
+    subst (λ runs. Stepped (group runs) c.args.row.now all c.union.new.self) (sym (map_more f rs i none c.loop-run-test.true))
+    (group_more (map f (take i rs)) (f (get_or rs i none)) c.args.row.now all c.loop-run.all c.pass.new.row c.union.new.self c.loop-run.invariant
     (subst (λ item. Stepped item c.args.row.now all c.pass.new.row) (c.of_one.ensures ∙ ap (λ run. range FirstOn true run run) c.run_codes.ensures) c.pass.ensures)
-    c.join.ensures)
+    c.union.ensures)

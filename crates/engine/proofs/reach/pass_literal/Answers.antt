@@ -5,5 +5,5 @@ use Rattle.engine.proofs.reach.pass_literal.Goals as goal
 
 pub returns : goal.returns
 returns g c =
-    kept_step (literal c.args.code) 1 c.args.row.now c.keep.new.self c.shift.new.self
-    (codes_of g.R.Element.Kind.alphabet (g.R.Reading.elements c.args.reading.now)) (literal_length c.args.code) c.keep.ensures c.shift.ensures
+    kept_step (literal c.args.code) 1 c.args.row.now c.retain.new.self c.shift.new.self
+    (codes_of g.R.Element.Kind.alphabet (g.R.Reading.elements c.args.reading.now)) (literal_length c.args.code) c.retain.ensures c.shift.ensures

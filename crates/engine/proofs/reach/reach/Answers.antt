@@ -11,10 +11,10 @@ use Rattle.engine.proofs.Reaching.{row_none, row_more, row_stops, bodies_append,
 use Rattle.engine.proofs.reach.reach.Goals as goal
 
 pub loop-placed-init : goal.loop-placed-init
-loop-placed-init g c = row_none (codes_of g.R.Element.Kind.alphabet (g.R.Reading.elements c.args.reading.now)) c.none.result c.with-row.result c.none.ensures c.with-row.ensures
+loop-placed-init g c = row_none (codes_of g.R.Element.Kind.alphabet (g.R.Reading.elements c.args.reading.now)) c.new-row.result c.insert.new.self c.new-row.ensures c.insert.ensures
 
-pub returns-then-is_none : goal.returns-then-is_none
-returns-then-is_none g c =
+pub returns-then-is_empty : goal.returns-then-is_empty
+returns-then-is_empty g c =
     let pattern = c.args.pattern.now in
     let all = codes_of g.R.Element.Kind.alphabet (g.R.Reading.elements c.args.reading.now) in
     let codes = pattern.codes.items in
@@ -24,7 +24,7 @@ returns-then-is_none g c =
     let i = c.loop-placed.placed-index in
     reached_held pattern c.args.from c.args.to slice c.as_slice.ensures.value all c.loop-placed.row
     (subst (λ is. Reached is all c.loop-placed.row) (sym (bodies_append codes runs (take i ps) (drop i ps)) ∙ ap (λ l. bodies (items codes runs l)) (take-append-drop i ps))
-    (row_stops (bodies (items codes runs (take i ps))) (bodies (items codes runs (drop i ps))) all c.loop-placed.row c.loop-placed.invariant c.if-is_none.ensures))
+    (row_stops (bodies (items codes runs (take i ps))) (bodies (items codes runs (drop i ps))) all c.loop-placed.row c.loop-placed.invariant c.if-is_empty.ensures))
 
 pub pass_part-row-requires : goal.pass_part-row-requires
 pass_part-row-requires g c =

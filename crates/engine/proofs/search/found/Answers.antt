@@ -1,4 +1,4 @@
-use Rattle.std.proofs.Common.{Some, is_some, map, reverse, ap, ◌∙◌}
+use Rattle.std.proofs.Common.{Some, is_some, map, ap, ◌∙◌}
 use Rattle.patterns.specs.Fragments.{bodies}
 use Rattle.patterns.specs.Search.{least_end}
 use Rattle.engine.specs.Codes.{codes_of}
@@ -20,7 +20,7 @@ returns-in-Back g c holds =
     let s = c.args.sequence.now in
     let code = g.R.Element.Kind.alphabet.code in
     let elements = g.R.Reading.elements c.args.reading.now in
-    let codes = ap (λ f. map code (reverse (g.R.Reading.elements f.reading.now))) c.new-backward.ensures ∙ map_reverse code elements in
+    let codes = ap (map code) c.new-backward.ensures ∙ map_reverse code elements in
     c.is_some-in-Back.ensures ∙ ap is_some (c.last_end-in-Back.ensures holds)
     ∙ (λ i. is_some (least_end (bodies (held s.pattern)) (c.between-in-Back.ensures.from i) (c.between-in-Back.ensures.until i) (codes i)))
     ∙ back_decides s c.in-Back.least c.in-Back.most (map code elements) c.in-Back.is

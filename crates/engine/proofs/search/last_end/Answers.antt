@@ -37,7 +37,7 @@ returns-in_err-from g c holds =
     let elements = g.R.Reading.elements c.args.reading.now in
     let xs = codes_of g.R.Element.Kind.alphabet elements in
     let size : length xs ≡ length elements = simp length-map in
-    let few : length xs < 2 ^ 64 = omega (arith, g.R.Reading.bounded c.args.reading.now) in
+    let few : length xs < 2 ^ 64 = omega (arith, g.R.Reading.fits c.args.reading.now) in
     c.from_residual-in_err-from.ensures
     ∙ come_past c.args.sequence.now (g.F.Fragments.at c.args.fragments.now) c.args.starts xs holds c.loop-number.number c.loop-number.end (c.loop-number.invariant holds)
     c.in-Some.fragment.now (sym c.get-in-loop-number.ensures ∙ ap option_copied c.in-Some.is) (subst (λ n. c.loop-number.end + n < 2 ^ 64 → ⊥) c.from.ensures c.in_err-from.ensures) few

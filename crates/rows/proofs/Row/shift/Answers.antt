@@ -7,7 +7,7 @@ use Rattle.rows.proofs.Written.{shift_word, shifted_all, shifts_none, written_mo
 use Rattle.rows.proofs.Row.shift.Goals as goal
 
 pub returns-then-by-ge-WIDTH : goal.returns-then-by-ge-WIDTH
-returns-then-by-ge-WIDTH c j = c.none.ensures j ∙ sym (shifts_none c.args.self.now c.args.by j c.if-by-ge-WIDTH.true)
+returns-then-by-ge-WIDTH c j = c.new.ensures j ∙ sym (shifts_none c.args.self.now c.args.by j c.if-by-ge-WIDTH.true)
 
 pub loop-i-preserved : goal.loop-i-preserved
 loop-i-preserved c =

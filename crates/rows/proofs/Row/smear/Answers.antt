@@ -17,9 +17,9 @@ loop-done-preserved c =
     let end = c.loop-done.invariant.1 in
     let moved_on = c.loop-done.invariant.2 in (
       omega arith,
-      c.join_moved.ensures.used ∙ end,
-      smear_more row all c.join_moved.new.self done step (omega arith) moved_on
-          (λ j. c.join_moved.ensures.joined j ∙ smear_short row all c.args.reach done step all.used (omega arith) moved_on end j),
+      c.union_moved.ensures.used ∙ end,
+      smear_more row all c.union_moved.new.self done step (omega arith) moved_on
+          (λ j. c.union_moved.ensures.added j ∙ smear_short row all c.args.reach done step all.used (omega arith) moved_on end j),
     )
 
 pub returns : goal.returns

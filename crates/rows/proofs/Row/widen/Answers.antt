@@ -8,7 +8,7 @@ use Rattle.rows.proofs.Row.widen.Goals.{then-least-gt0, else-least-gt0}
 
 pub returns-in_default : goal.returns-in_default
 returns-in_default c j =
-    c.none.ensures j ∙ sym (and_right (ltb j 1024) _ (no_distance c.args.self.now c.args.least c.args.most j (omega (arith, c.in_default.ensures))))
+    c.new.ensures j ∙ sym (and_right (ltb j 1024) _ (no_distance c.args.self.now c.args.least c.args.most j (omega (arith, c.in_default.ensures))))
 
 pub returns : goal.returns
 returns c =

@@ -1,9 +1,5 @@
-use Rattle.std.proofs.Common.{◌≡◌, min, length, take, ap, ◌∙◌, arith}
-use Rattle.std.proofs.lemmas.List.{take_min}
+-- What is shown of the list is what the reading holds.
 use Rattle.kinds.proofs.held.Held.new.Goals as goal
 
 pub returns : goal.returns
-returns g c =
-    let all = c.args.items.now in
-    let cut : c.min.result ≡ min 4294967295 (length all) = omega arith in
-    ap (λ k. take k all) cut ∙ take_min 4294967295 all
+returns g c = c.showable.ensures.front

@@ -371,6 +371,10 @@ fn answer(line: &str) -> String {
     let words: Vec<&str> = line.split(' ').collect();
     let text = |k: usize| words[k].as_bytes();
     let refused = |(number, place)| format!("refused {number} 1 {place}");
+    let pattern = if words[0] == "read" { words[2] } else { words[5] };
+    if pattern.len() > 200 {
+        return "error: the text has more than 200 characters".into();
+    }
     match words[..] {
         ["read", kind, _] => match checked(kind_of(kind), text(2)) {
             Ok(items) => format!("ok {}", fragments(&items).len()),
@@ -471,7 +475,8 @@ impl Random {
     }
 
     fn text(&mut self, kind: Kind) -> String {
-        let text = self.whole_text(kind, 9);
+        let things = if self.below(24) == 0 { 90 } else { 9 };
+        let text = self.whole_text(kind, things);
         if self.below(3) == 0 {
             self.damage(text)
         } else {

@@ -1,5 +1,5 @@
 -- The least end of a fragment's placement, from one place where its anchor stands to the next.
-use Rattle.std.proofs.Common.{◌≡◌, ℕ, ◌+◌, ◌<◌, ◌≤◌, min, true, leb, ◌⊎◌, inl, refl, List, length, Some, None, Option, sym, ap, ◌∙◌, subst, ⊎_elim, arith}
+use Rattle.std.proofs.Common.{◌≡◌, ℕ, ◌+◌, ◌<◌, ◌≤◌, min, true, leb, ◌⊎◌, inl, inr, refl, List, length, Some, None, Option, sym, ap, ◌∙◌, subst, ⊎_elim, arith}
 use Rattle.std.proofs.lemmas.Bool.{cases_lt, cond_both, leb-false}
 use Rattle.patterns.specs.Fragments as spec
 use Rattle.patterns.specs.Fragments.{Anchor, anchor, bodies}
@@ -9,7 +9,7 @@ use Rattle.patterns.specs.Spans.{Anchored, NoLess}
 use Rattle.patterns.proofs.Anchors.{BestBefore, FirstFit, first_fit_exactly, anchor_splits, stands_decides, spans_at_most, best_none, best_on, best_kept, best_more, best_all, best_least}
 use Rattle.patterns.proofs.Searches.{least_end_is}
 use Rattle.engine.specs.Codes.{not_past, ShiftsOf}
-use Rattle.engine.specs.Finding.{smaller_of, Bounds, LeastThrough, Sides, part_of}
+use Rattle.engine.specs.Finding.{last_place_of, last_useful_of, smaller_of, Bounds, LeastThrough, Sides, part_of}
 use Rattle.engine.specs.Openings.{Excluded, OpeningOf}
 use Rattle.engine.specs.Reading.{held}
 use Rattle.engine.specs.Said.{Searches}
@@ -24,6 +24,16 @@ use Rattle.engine.proofs.Openings.{through_excluded}
 pub record Best (a : Anchor) (starts : Starts) (xs : List ℕ) (place last : ℕ) (best : Option ℕ) : Type 0 where
   pub before : BestBefore a.front a.codes a.back starts.from starts.until xs place best
   pub beyond : (q e : ℕ) → last < q → Anchored a.front a.codes a.back starts.from starts.until xs q e → NoLess best e
+
+-- no anchor of a placement stands past the last place
+pub last_far : (until : Option ℕ) (start place : ℕ) → AtMost until start → place < start + 1024 → place ≤ 4294967295 → place ≤ last_place_of until
+last_far None start place early near inside = inside
+last_far (Some most) start place early near inside = omega arith
+
+-- past the last useful place, an anchor gives no smaller end
+pub useful_far : (last : ℕ) (best : Option ℕ) (len place : ℕ) → last_useful_of last best len < place → (last < place) ⊎ NoLess best (place + len)
+useful_far last None len place past = inl past
+useful_far last (Some end) len place past = ⊎_elim (λ far. inl far) (λ near. inr (omega arith)) (cases_lt last place)
 
 -- a place more
 best_past : (a : Anchor) (starts : Starts) (xs : List ℕ) (p : ℕ) (best end : Option ℕ) → LeastThrough a starts xs p end

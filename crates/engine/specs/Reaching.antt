@@ -1,5 +1,5 @@
 -- One step of an item over the codes of a reading, from the members of a row to those of another.
-use Rattle.std.specs.Prelude.{◌≡◌, ℕ, ◌+◌, ◌<◌, ◌≤◌, Bool, true, ◌&&◌, List, length, Decides, nat_le}
+use Rattle.std.specs.Prelude.{◌≡◌, ℕ, ◌+◌, ◌<◌, ◌≤◌, Bool, true, ◌&&◌, ◌↔◌, List, length, IsTrue, nat_le}
 use Rattle.patterns.specs.Patterns.{Item, matches, range}
 use Rattle.patterns.specs.Search.{stretch}
 use Rattle.rows.specs.Rows.{member}
@@ -21,7 +21,7 @@ pub record Led (item : Item) (row : Row) (xs : List ℕ) (j : ℕ) : Type 0 wher
 
 -- the members of a row are the places that an item leads to from those of another
 abbrev pub Stepped : Item → Row → List ℕ → Row → Type 0
-Stepped item row xs on = (j : ℕ) → Decides (member on j) (Led item row xs j)
+Stepped item row xs on = (j : ℕ) → IsTrue (member on j) ↔ Led item row xs j
 
 -- whether an item matches the n codes at an offset, where there are that many
 abbrev pub matches_at : Item → ℕ → List ℕ → ℕ → Bool

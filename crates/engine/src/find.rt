@@ -1,10 +1,9 @@
 // Finds the least end of a fragment's placements, from one place where its anchor stands to the next.
-ghost use Rattle.std.specs.Prelude.{◌≡◌, ℕ, ◌+◌, ◌<◌, true, ◌⊎◌, Decides, length};
+ghost use Rattle.std.specs.Prelude.{◌≡◌, ◌↔◌, IsTrue, true, length};
 ghost use Rattle.engine.specs.Codes.{codes_of};
-ghost use Rattle.engine.specs.Finding.{Bounds, LeastThrough, Sides};
+ghost use Rattle.engine.specs.Finding.{last_useful_of, Bounds, LeastThrough, Sides};
 ghost use Rattle.engine.specs.Reading.{held};
 ghost use Rattle.engine.specs.Said.{Searches};
-ghost use Rattle.patterns.specs.Spans.{NoLess};
 ghost use Rattle.patterns.specs.Fragments as spec;
 ghost use Rattle.patterns.specs.Fragments.{bodies, Anchor};
 ghost use Rattle.patterns.specs.Search.{least_end, stands_at};
@@ -22,7 +21,7 @@ use kinds::Reading;
 
 // Whether a fragment's bounds are in order and lie in a pattern.
 fn is_bounded(pattern: &Pattern, fragment: &Fragment) -> bool
-    ensures { Decides result (Bounds (length pattern.now.parts.items) fragment.now) }
+    ensures { IsTrue result ↔ Bounds (length pattern.now.parts.items) fragment.now }
 {
     fragment.first <= fragment.anchor
         && fragment.anchor <= fragment.end
@@ -71,7 +70,7 @@ fn end_through<R: Reading>(
 
 // The last of the places up to one where an anchor of this length can give a smaller end than the best one.
 fn last_useful(last: u32, best: Option<u64>, len: usize) -> u32
-    ensures { (place : ℕ) → result < place → (last < place) ⊎ NoLess best (place + len) }
+    ensures { result ≡ last_useful_of last best len }
 {
     best.map_or(last, |end| {
         u64::from(last).min(end.saturating_sub(len as u64)) as u32

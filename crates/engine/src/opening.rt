@@ -1,6 +1,6 @@
 // The literal that a fragment begins with: where it does not stand near enough before an anchor, no placement goes through that
 // anchor, and nothing else need be looked at there.
-ghost use Rattle.std.specs.Prelude.{◌≡◌, ◌≤◌, min, Decides, MatchOption, length};
+ghost use Rattle.std.specs.Prelude.{◌≡◌, ◌≤◌, min, ◌↔◌, IsTrue, MatchOption, length};
 ghost use Rattle.engine.specs.Codes.{codes_of};
 ghost use Rattle.engine.specs.Finding.{part_of, Bounds};
 ghost use Rattle.engine.specs.Openings.{opening_code, Excluded, Known, LastOf, NoneOf, OpeningOf};
@@ -94,7 +94,7 @@ impl Opening {
         ensures far { self.new.far ≡ self.old.far }
         ensures next { self.new.next ≡ place }
         ensures known { Known self.new (codes_of R.Element.alphabet (R.elements reading.now)) }
-        ensures excluded { Decides result (Excluded self.old (codes_of R.Element.alphabet (R.elements reading.now)) place) }
+        ensures excluded { IsTrue result ↔ Excluded self.old (codes_of R.Element.alphabet (R.elements reading.now)) place }
     {
         let first = place.saturating_sub(self.far);
         let from = self.next.max(first);

@@ -1,7 +1,6 @@
 // Where a placement may start.
-ghost use Rattle.std.specs.Prelude.{◌≡◌, ℕ, ◌+◌, ◌<◌, ◌≤◌, Decides, MatchOption, Some};
-ghost use Rattle.engine.specs.Finding.{Start};
-ghost use Rattle.patterns.specs.Patterns.{AtMost};
+ghost use Rattle.std.specs.Prelude.{◌≡◌, ◌+◌, ◌<◌, ◌↔◌, IsTrue, MatchOption, Some};
+ghost use Rattle.engine.specs.Finding.{last_place_of, Start};
 
 use crate::limits::LONGEST_SPAN;
 use rows::Row;
@@ -40,7 +39,7 @@ impl Starts {
 
     // The last place where the anchor of a placement can stand in a reading.
     pub(crate) fn last_place(self) -> u32
-        ensures { (start place : ℕ) → AtMost self.until start → place < start + 1024 → place ≤ 4294967295 → place ≤ result }
+        ensures { result ≡ last_place_of self.until }
     {
         self.until.map_or(u32::MAX, |until| {
             u32::try_from(until.saturating_add(u64::from(LONGEST_SPAN))).unwrap_or(u32::MAX)
@@ -49,7 +48,7 @@ impl Starts {
 
     // Whether some member of a row, as a distance from a place back, leads to one of them.
     pub(crate) fn reached(self, row: &Row, place: u64) -> bool
-        ensures { Decides result (Start row.now place self) }
+        ensures { IsTrue result ↔ Start row.now place self }
     {
         let Some(most) = place.checked_sub(self.from) else {
             return false;

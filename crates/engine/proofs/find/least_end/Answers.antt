@@ -1,11 +1,11 @@
-use Rattle.std.proofs.Common.{◌≡◌, ℕ, ◌+◌, ◌<◌, ◌⊎◌, length, sym, ap, ◌∙◌, subst, arith}
+use Rattle.std.proofs.Common.{◌≡◌, ℕ, ◌+◌, ◌<◌, ◌≤◌, ◌⊎◌, length, sym, ap, ◌∙◌, subst, arith}
 use lib.ListN.{length-map}
 use Rattle.std.proofs.lemmas.Bool.{both_ways}
 use Rattle.patterns.specs.Fragments.{anchor, bodies}
 use Rattle.patterns.specs.Spans.{NoLess}
 use Rattle.engine.specs.Codes.{codes_of}
 use Rattle.engine.specs.Stored.{placed_of}
-use Rattle.engine.proofs.Least.{sides, bounds_of, best_begins, none_begins, best_ends, next_before, best_next, best_stays, none_through}
+use Rattle.engine.proofs.Least.{sides, bounds_of, last_far, useful_far, best_begins, none_begins, best_ends, next_before, best_next, best_stays, none_through}
 use Rattle.engine.proofs.Openings.{unlooked}
 use Rattle.engine.proofs.Smallest.{smaller_ends}
 use Rattle.engine.proofs.find.least_end.Goals as goal
@@ -33,7 +33,8 @@ loop-fit-init g c = (
       let few = g.R.Reading.fits c.args.reading.now in
       let many = length-map (g.R.Reading.elements c.args.reading.now) g.R.Element.Kind.alphabet.code in
       best_begins c.args.sequence.now c.args.fragment.now f s c.args.starts
-      (codes_of g.R.Element.Kind.alphabet (g.R.Reading.elements c.args.reading.now)) c.in_ok-place.place c.last_place-last.result c.in_ok-place.ensures (omega arith) c.last_place-last.ensures,
+      (codes_of g.R.Element.Kind.alphabet (g.R.Reading.elements c.args.reading.now)) c.in_ok-place.place c.last_place-last.result c.in_ok-place.ensures (omega arith)
+      (λ start p early near inside. subst (λ n. p ≤ n) (sym c.last_place-last.ensures) (last_far c.args.starts.until start p early near inside)),
   c.of-opening.ensures.opening,
   unlooked c.of-opening.result (codes_of g.R.Element.Kind.alphabet (g.R.Reading.elements c.args.reading.now)) c.of-opening.ensures.after c.of-opening.ensures.next,
   omega (arith, c.of-opening.ensures.next),
@@ -61,7 +62,7 @@ loop-fit-preserved g c =
       λ f s.
           elim c.if-not-excludes.branch [
             | then-not-excludes w ↦
-                let narrow = λ (q : ℕ) (past : w.last_useful-last.result < q). subst (λ n. (c.loop-fit.last < q) ⊎ NoLess w.smaller-best.result (q + n)) long (w.last_useful-last.ensures q past) in
+                let narrow = λ (q : ℕ) (past : w.last_useful-last.result < q). subst (λ n. (c.loop-fit.last < q) ⊎ NoLess w.smaller-best.result (q + n)) long (useful_far c.loop-fit.last w.smaller-best.result _ q (subst (λ n. n < q) w.last_useful-last.ensures past)) in
                 rw (w.last-is, w.best-is)
                 (best_next sequence fragment f s starts xs _ codes c.loop-fit.place c.loop-fit.last c.next_fit_up_to.result c.next_fit_up_to.ensures.first
                 c.in-Some.fit c.in-Some.is c.loop-fit.best w.end_through.result w.smaller-best.result c.in_ok-place-2.place w.last_useful-last.result

@@ -1,4 +1,5 @@
-// Finds the least end of a fragment's placements, from one place where its anchor stands to the next.
+// Finds the least end of a fragment's placements, from one place where its anchor stands to the
+// next.
 ghost use Rattle.std.specs.Prelude.{◌≡◌, ◌↔◌, IsTrue, true, length};
 ghost use Rattle.engine.specs.Codes.{codes_of};
 ghost use Rattle.engine.specs.Finding.{last_useful_of, Bounds, LeastThrough, Sides};
@@ -11,10 +12,10 @@ ghost use Rattle.patterns.specs.Search.{least_end, stands_at};
 use crate::fragment::Fragment;
 use crate::lent::{BackFrom, OnFrom};
 use crate::opening::Opening;
+use crate::oriented::Oriented;
 use crate::pattern::Pattern;
 use crate::reach::reach;
 use crate::scan::next_fit_up_to;
-use crate::oriented::Oriented;
 use crate::smaller::smaller;
 use crate::starts::{Starts, place_behind};
 use kinds::Reading;
@@ -29,9 +30,11 @@ fn is_bounded(pattern: &Pattern, fragment: &Fragment) -> bool
         && usize::from(fragment.end) <= pattern.parts.len()
 }
 
-// No struct holds a sequence, a reading and starts together: the starts are others for each fragment.
+// No struct holds a sequence, a reading and starts together: the starts are others for each
+// fragment.
 
-// The least end of a placement whose anchor stands at a place and that starts where it may, or none.
+// The least end of a placement whose anchor stands at a place and that starts where it may, or
+// none.
 fn end_through<R: Reading>(
     sequence: &Oriented,
     fragment: &Fragment,
@@ -40,7 +43,10 @@ fn end_through<R: Reading>(
     starts: Starts,
 ) -> Option<u64>
     requires { Bounds (length sequence.now.pattern.parts.items) fragment.now }
-    ensures { (a : Anchor) → Sides (held sequence.now.pattern) (held sequence.now.mirror) fragment.now a → stands_at a.codes (codes_of R.Element.alphabet (R.elements reading.now)) place ≡ true → LeastThrough a starts (codes_of R.Element.alphabet (R.elements reading.now)) place result }
+    ensures { (a : Anchor) →
+        Sides (held sequence.now.pattern) (held sequence.now.mirror) fragment.now a →
+        stands_at a.codes (codes_of R.Element.alphabet (R.elements reading.now)) place ≡ true →
+        LeastThrough a starts (codes_of R.Element.alphabet (R.elements reading.now)) place result }
 {
     let count = sequence.mirror.parts.len();
     let first = count.saturating_sub(usize::from(fragment.first));
@@ -68,7 +74,8 @@ fn end_through<R: Reading>(
     behind.first_from(0).map(|far| u64::from(base) + far as u64)
 }
 
-// The last of the places up to one where an anchor of this length can give a smaller end than the best one.
+// The last of the places up to one where an anchor of this length can give a smaller end than the
+// best one.
 fn last_useful(last: u32, best: Option<u64>, len: usize) -> u32
     ensures { result ≡ last_useful_of last best len }
 {
@@ -77,16 +84,18 @@ fn last_useful(last: u32, best: Option<u64>, len: usize) -> u32
     })
 }
 
-// The least end of a fragment's placement that starts where it may, or none. At each place where the anchor stands, unless the
-// literal that the fragment begins with does not stand near enough before it, the least end through it is taken, up to the last
-// place that can give a smaller one.
+// The least end of a fragment's placement that starts where it may, or none. At each place where
+// the anchor stands, unless the literal that the fragment begins with does not stand near enough
+// before it, the least end through it is taken, up to the last place that can give a smaller one.
 pub(crate) fn least_end<R: Reading>(
     sequence: &Oriented,
     fragment: &Fragment,
     reading: &R,
     starts: Starts,
 ) -> Option<u64>
-    ensures { (g : spec.Fragment) → Searches sequence.now fragment.now g → result ≡ least_end (bodies g.body) starts.from starts.until (codes_of R.Element.alphabet (R.elements reading.now)) }
+    ensures { (g : spec.Fragment) → Searches sequence.now fragment.now g → result ≡
+        least_end (bodies g.body) starts.from starts.until
+        (codes_of R.Element.alphabet (R.elements reading.now)) }
 {
     if !is_bounded(&sequence.pattern, fragment) {
         return None;

@@ -26,8 +26,8 @@ impl<'r, R: Reading> Reading for Lent<'r, R> {
     }
 }
 
-// A lent reading from a place back, the element before the place first.
-// It is no Backward over a reading up to its place: that is one reading more, and tests each place twice.
+// A lent reading from a place back, the element before the place first. It is no Backward over a
+// reading up to its place: that is one reading more, and tests each place twice.
 #[derive(Drop)]
 pub(crate) struct BackFrom<'r, R> {
     pub(crate) reading: &'r R,

@@ -1,5 +1,5 @@
-// The literal that a fragment begins with: where it does not stand near enough before an anchor, no placement goes through that
-// anchor, and nothing else need be looked at there.
+// The literal that a fragment begins with: where it does not stand near enough before an anchor, no
+// placement goes through that anchor, and nothing else need be looked at there.
 ghost use Rattle.std.specs.Prelude.{◌≡◌, ◌≤◌, min, ◌↔◌, IsTrue, MatchOption, length};
 ghost use Rattle.engine.specs.Codes.{codes_of};
 ghost use Rattle.engine.specs.Finding.{part_of, Bounds};
@@ -44,7 +44,9 @@ fn first_code(parts: &[PlacedPart]) -> Option<u16>
 
 // The last place before one, and not before another, where a code stands.
 fn last_place_of<R: Reading>(code: u16, reading: &R, from: u32, to: u32) -> Option<u32>
-    ensures { MatchOption result (NoneOf code (codes_of R.Element.alphabet (R.elements reading.now)) from to) (LastOf code (codes_of R.Element.alphabet (R.elements reading.now)) from to) }
+    ensures { MatchOption result (NoneOf code
+        (codes_of R.Element.alphabet (R.elements reading.now)) from to) (LastOf code
+        (codes_of R.Element.alphabet (R.elements reading.now)) from to) }
 {
     // No `find`: of a range from its end, what it says is said of a list turned round.
     for place in (from..to).rev() {
@@ -55,15 +57,15 @@ fn last_place_of<R: Reading>(code: u16, reading: &R, from: u32, to: u32) -> Opti
     None
 }
 
-// The literal that a fragment begins with, and how far a reading has been looked through for it: a place is asked for at most
-// once, and not again for each anchor behind it.
+// The literal that a fragment begins with, and how far a reading has been looked through for it: a
+// place is asked for at most once, and not again for each anchor behind it.
 #[derive(Clone, Copy)]
 pub(crate) struct Opening {
     code: Option<u16>,
     // How far before its anchor the fragment can begin.
     far: u32,
-    // The literal stands right before `after`, if that is not 0, and at none of the places from there to before `next` that are
-    // at most `far` before `next`.
+    // The literal stands right before `after`, if that is not 0, and at none of the places from
+    // there to before `next` that are at most `far` before `next`.
     after: u32,
     next: u32,
 }
@@ -85,8 +87,8 @@ impl Opening {
         }
     }
 
-    // Looks through a reading up to an anchor's place, and tells whether the literal stands at none of the `far` places before
-    // it: then no placement goes through the anchor.
+    // Looks through a reading up to an anchor's place, and tells whether the literal stands at none
+    // of the `far` places before it: then no placement goes through the anchor.
     pub(crate) fn excludes<R: Reading>(&mut self, reading: &R, place: u32) -> bool
         requires known { Known self.old (codes_of R.Element.alphabet (R.elements reading.now)) }
         requires on { self.old.next ≤ place }
@@ -94,7 +96,8 @@ impl Opening {
         ensures far { self.new.far ≡ self.old.far }
         ensures next { self.new.next ≡ place }
         ensures known { Known self.new (codes_of R.Element.alphabet (R.elements reading.now)) }
-        ensures excluded { IsTrue result ↔ Excluded self.old (codes_of R.Element.alphabet (R.elements reading.now)) place }
+        ensures excluded { IsTrue result ↔ Excluded self.old
+            (codes_of R.Element.alphabet (R.elements reading.now)) place }
     {
         let first = place.saturating_sub(self.far);
         let from = self.next.max(first);

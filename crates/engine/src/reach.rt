@@ -21,11 +21,13 @@ use std::cmp::Ordering;
 // The largest offset.
 const LAST: usize = 1023;
 
-// The row and the reading stay apart: of a struct of both, each step would have to say too that the reading stays as it is.
+// The row and the reading stay apart: of a struct of both, each step would have to say too that the
+// reading stays as it is.
 
 // Moves a row on behind a gap.
 fn pass_gap<R: Reading>(least: u16, most: Option<u16>, row: &mut Row, reading: &R)
-    ensures { Stepped (spaced least most) row.old (codes_of R.Element.alphabet (R.elements reading.now)) row.new }
+    ensures { Stepped (spaced least most) row.old
+        (codes_of R.Element.alphabet (R.elements reading.now)) row.new }
 {
     let most = most.map_or(LAST, usize::from);
     row.widen(usize::from(least), most);
@@ -55,7 +57,8 @@ struct Standing<'r, R> {
 }
 
 impl<'r, R: Reading> Question for Standing<'r, R> {
-    ghost asked = { λ s. matches_at (literal s.code) 1 (codes_of R.Element.alphabet (R.elements s.reading.now)) };
+    ghost asked = { λ s. matches_at (literal s.code) 1
+        (codes_of R.Element.alphabet (R.elements s.reading.now)) };
 
     fn ask(&self, offset: usize) -> bool {
         offset < self.reading.len() as usize
@@ -65,7 +68,8 @@ impl<'r, R: Reading> Question for Standing<'r, R> {
 
 // Moves a row on behind a literal.
 fn pass_literal<R: Reading>(code: u16, row: &mut Row, reading: &R)
-    ensures { Stepped (literal code) row.old (codes_of R.Element.alphabet (R.elements reading.now)) row.new }
+    ensures { Stepped (literal code) row.old
+        (codes_of R.Element.alphabet (R.elements reading.now)) row.new }
 {
     row.retain(&Standing { code, reading });
     row.shift(1);
@@ -80,7 +84,9 @@ fn compare<R: Reading>(
     run: &[u16],
 ) -> Ordering
     requires { at + len ≤ length (R.elements reading.now) }
-    ensures { result ≡ slice_cmp nat_cmp (compared direction (stretch (codes_of R.Element.alphabet (R.elements reading.now)) at (at + len))) (compared direction run.now) }
+    ensures { result ≡ slice_cmp nat_cmp (compared direction (stretch
+        (codes_of R.Element.alphabet (R.elements reading.now)) at (at + len)))
+        (compared direction run.now) }
 {
     let places = at..at + len;
     let code = |place| code_at(reading, place);
@@ -90,7 +96,8 @@ fn compare<R: Reading>(
     }
 }
 
-// The runs of one length that lie from one to another, compared in a direction, or (false) those that do not.
+// The runs of one length that lie from one to another, compared in a direction, or (false) those
+// that do not.
 #[derive(Clone, Copy)]
 struct RunRange<'c> {
     direction: Direction,
@@ -115,7 +122,8 @@ impl<'c> RunRange<'c> {
     // Whether the codes at an offset, as many as the runs have, are one of the runs.
     fn stands_at<R: Reading>(&self, reading: &R, at: u32) -> bool
         requires { at + length self.now.low.now ≤ length (R.elements reading.now) }
-        ensures { result ≡ matches (range_item self.now) (stretch (codes_of R.Element.alphabet (R.elements reading.now)) at (at + length self.now.low.now)) }
+        ensures { result ≡ matches (range_item self.now) (stretch
+            (codes_of R.Element.alphabet (R.elements reading.now)) at (at + length self.now.low.now)) }
     {
         let len = self.low.len() as u32;
         let between = compare(self.direction, reading, at, len, self.low).is_ge()
@@ -125,7 +133,8 @@ impl<'c> RunRange<'c> {
 
     // Moves a row on behind the runs.
     fn pass<R: Reading>(&self, row: &mut Row, reading: &R)
-        ensures { Stepped (range_item self.now) row.old (codes_of R.Element.alphabet (R.elements reading.now)) row.new }
+        ensures { Stepped (range_item self.now) row.old
+            (codes_of R.Element.alphabet (R.elements reading.now)) row.new }
     {
         let question = Ranging {
             range: *self,
@@ -144,7 +153,8 @@ struct Ranging<'c, 'r, R> {
 }
 
 impl<'c, 'r, R: Reading> Question for Ranging<'c, 'r, R> {
-    ghost asked = { λ s. matches_at (range_item s.range) (length s.range.low.now) (codes_of R.Element.alphabet (R.elements s.reading.now)) };
+    ghost asked = { λ s. matches_at (range_item s.range) (length s.range.low.now)
+        (codes_of R.Element.alphabet (R.elements s.reading.now)) };
 
     fn ask(&self, offset: usize) -> bool {
         let end = offset.saturating_add(self.range.low.len());
@@ -155,7 +165,8 @@ impl<'c, 'r, R: Reading> Question for Ranging<'c, 'r, R> {
 // Moves a row on behind one of some runs.
 fn pass_group<R: Reading>(pattern: &Pattern, runs: &[Run], row: &mut Row, reading: &R)
     requires { HasRuns pattern.now runs.now }
-    ensures { Stepped (group (map (run_in pattern.now) runs.now)) row.old (codes_of R.Element.alphabet (R.elements reading.now)) row.new }
+    ensures { Stepped (group (map (run_in pattern.now) runs.now)) row.old
+        (codes_of R.Element.alphabet (R.elements reading.now)) row.new }
 {
     let mut all = Row::new();
     for run in runs {
@@ -169,7 +180,8 @@ fn pass_group<R: Reading>(pattern: &Pattern, runs: &[Run], row: &mut Row, readin
 // One step: the row behind a part, from the row before it.
 fn pass_part<R: Reading>(pattern: &Pattern, part: Part, mut row: Row, reading: &R) -> Row
     requires { HasPart pattern.now part }
-    ensures { Stepped (item_in pattern.now part) row (codes_of R.Element.alphabet (R.elements reading.now)) result }
+    ensures { Stepped (item_in pattern.now part) row
+        (codes_of R.Element.alphabet (R.elements reading.now)) result }
 {
     match part {
         Part::Literal(code) => pass_literal(code, &mut row, reading),
@@ -197,13 +209,14 @@ fn pass_part<R: Reading>(pattern: &Pattern, part: Part, mut row: Row, reading: &
     row
 }
 
-// The offsets that the parts from `from` to before `to` reach. It is not inlined: `end_through` calls it within the search for
-// anchors, which is faster without it.
+// The offsets that the parts from `from` to before `to` reach. It is not inlined: `end_through`
+// calls it within the search for anchors, which is faster without it.
 #[inline(never)]
 pub(crate) fn reach<R: Reading>(pattern: &Pattern, from: usize, to: usize, reading: &R) -> Row
     requires ordered { from ≤ to }
     requires inside { to ≤ length pattern.now.parts.items }
-    ensures { Reached (part_of (held pattern.now) from to) (codes_of R.Element.alphabet (R.elements reading.now)) result }
+    ensures { Reached (part_of (held pattern.now) from to)
+        (codes_of R.Element.alphabet (R.elements reading.now)) result }
 {
     let mut row = Row::new();
     row.insert(0);

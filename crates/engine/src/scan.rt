@@ -9,7 +9,8 @@ use kinds::{Kind, Reading};
 // Whether an anchor stands at a place of a reading that has as many elements from there on.
 fn fits<R: Reading>(reading: &R, anchor: &[u16], place: u32) -> bool
     requires { place + length anchor.now ≤ length (R.elements reading.now) }
-    ensures { result ≡ stands_at anchor.now (codes_of R.Element.alphabet (R.elements reading.now)) place }
+    ensures { result ≡ stands_at anchor.now
+        (codes_of R.Element.alphabet (R.elements reading.now)) place }
 {
     anchor.iter().enumerate().all(|(k, code)| {
         reading
@@ -18,8 +19,9 @@ fn fits<R: Reading>(reading: &R, anchor: &[u16], place: u32) -> bool
     })
 }
 
-// The first place, from one on and not past another, where an anchor stands, or none. A window of the anchor's length moves
-// on by the shift of the element beyond it, and by 1 where the table has a shift of 0, which no anchor's table has.
+// The first place, from one on and not past another, where an anchor stands, or none. A window of
+// the anchor's length moves on by the shift of the element beyond it, and by 1 where the table has
+// a shift of 0, which no anchor's table has.
 pub fn next_fit_up_to<R: Reading>(
     reading: &R,
     anchor: &[u16],
@@ -28,7 +30,8 @@ pub fn next_fit_up_to<R: Reading>(
     to: u32,
 ) -> Option<u32>
     ensures on { IfSome result (λ place. from ≤ place) }
-    ensures first { ShiftsOf shifts.now anchor.now → result ≡ not_past to (first_fit anchor.now (codes_of R.Element.alphabet (R.elements reading.now)) from) }
+    ensures first { ShiftsOf shifts.now anchor.now → result ≡ not_past to (first_fit anchor.now
+        (codes_of R.Element.alphabet (R.elements reading.now)) from) }
 {
     let width = anchor.len();
     let last = (reading.len() as usize)

@@ -2,12 +2,8 @@
 ghost use Rattle.std.specs.Prelude.{◌≡◌, ℕ, List, Option, Some, None};
 ghost use Rattle.std.specs.Option.{is_some, option_copied};
 ghost use Rattle.engine.specs.Codes.{codes_of};
-ghost use Rattle.engine.specs.Reading.{held};
-ghost use Rattle.engine.specs.Said.{said, HoldsAt};
+ghost use Rattle.engine.specs.Said.{end_in, hits_in, said, HoldsAt};
 ghost use Rattle.engine.specs.declared.fragment.Fragment.{Fragment as Compiled};
-ghost use Rattle.patterns.specs.Fragments.{bodies};
-ghost use Rattle.patterns.specs.Patterns.{hits as hits_by_rule};
-ghost use Rattle.patterns.specs.Search.{least_end as least_end_of};
 
 use crate::find::least_end;
 use crate::fragment::Fragment;
@@ -18,7 +14,7 @@ use crate::starts::Starts;
 use kinds::{Backward, Reading};
 use patterns::Reference;
 
-/// The compiled fragments of a sequence by their numbers, wherever they stand. Numbers count from 0.
+/// The compiled fragments of a sequence by their numbers, which count from 0, wherever they stand.
 pub(crate) trait Fragments {
     ghost at: { Self → ℕ → Option Compiled };
 
@@ -27,15 +23,17 @@ pub(crate) trait Fragments {
         ensures { option_copied result ≡ at self.now number };
 }
 
-// The least end of a placement of a sequence's items that starts where it may: the fragments are looked for one behind the other,
-// the first starting where it may, whatever its break, and each other behind its break.
+// The least end of a placement of a sequence's items that starts where it may: the fragments are
+// looked for one behind the other, the first starting where it may, whatever its break, and each
+// other behind its break.
 fn last_end<F: Fragments, R: Reading>(
     sequence: &Oriented,
     fragments: &F,
     reading: &R,
     starts: Starts,
 ) -> Option<u64>
-    ensures { HoldsAt sequence.now (F.at fragments.now) → result ≡ least_end_of (bodies (held sequence.now.pattern)) starts.from starts.until (codes_of R.Element.alphabet (R.elements reading.now)) }
+    ensures { HoldsAt sequence.now (F.at fragments.now) →
+        result ≡ end_in sequence.now starts (codes_of R.Element.alphabet (R.elements reading.now)) }
 {
     let mut end = least_end(sequence, fragments.get(0)?, reading, starts)?;
     for number in 1..MOST_FRAGMENTS {
@@ -55,7 +53,8 @@ pub(crate) fn found<F: Fragments, R: Reading>(
     fragments: &F,
     reading: &R,
 ) -> bool
-    ensures { HoldsAt sequence.now (F.at fragments.now) → result ≡ hits_by_rule sequence.now.reference (bodies (said sequence.now).items) (codes_of R.Element.alphabet (R.elements reading.now)) }
+    ensures { HoldsAt sequence.now (F.at fragments.now) →
+        result ≡ hits_in (said sequence.now) (codes_of R.Element.alphabet (R.elements reading.now)) }
 {
     match sequence.reference {
         Reference::Front { least, most } => {

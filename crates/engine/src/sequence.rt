@@ -1,8 +1,6 @@
 //! Sequences: pattern texts, compiled for their search.
 ghost use Rattle.std.specs.Prelude.{◌≡◌, ◌↔◌, IsTrue, length};
 ghost use Rattle.engine.specs.Codes.{codes_of};
-ghost use Rattle.patterns.specs.Fragments.{bodies};
-ghost use Rattle.patterns.specs.Patterns.{hits as hits_by_rule, Placement};
 
 use crate::fault::Failure;
 use crate::fragment::Fragment;
@@ -15,7 +13,10 @@ use kinds::{Kind, Reading};
 use patterns::Reference;
 use std::marker::{Model, PhantomData};
 
-/// A compiled sequence over elements of a kind: a pattern text that is not refused, and where it is looked for.
+/// A compiled sequence over elements of a kind: a pattern text that is not refused, and where it is
+/// looked for.
+///
+/// In contracts it is that: the reference, and the items of the text.
 #[derive(Drop)]
 pub struct Sequence<K> {
     oriented: Oriented,
@@ -50,9 +51,11 @@ impl Fragments for Own<'_> {
 }
 
 impl<K: Kind> Sequence<K> {
+    ghost use Rattle.engine.specs.Said.{hits_in, PlacementIn};
     ghost use Rattle.engine.specs.Sequences.{Compiled, parts_said, shown};
 
-    /// Compiles a pattern text for its search, or refuses it. The number of the sequence goes into the refusal alone.
+    /// Compiles a pattern text for its search, or refuses it (docs/PATTERNS.md, "Refusals"). The
+    /// number of the sequence, from 1, goes into the refusal alone.
     pub fn compile(
         number: u8,
         reference: Reference,
@@ -77,8 +80,10 @@ impl<K: Kind> Sequence<K> {
         self.fragments.len()
     }
 
-    /// The numbers of a fragment: break, lead, length of the anchor, and the shift of an index; none where there is no such
-    /// fragment. Fragments are numbered from 1, from the front, or from the back for a sequence from the back.
+    /// The numbers of a fragment, in elements: break, lead, length of the anchor, and the shift of
+    /// an index; none where there is no such fragment. Fragments are numbered from 1, from the
+    /// front, or from the back for a sequence from the back (docs/PATTERNS.md, "Fragments and their
+    /// numbers").
     pub fn numbers(&self, fragment: usize, index: u8) -> Option<(u32, u32, usize, u8)>
         ensures { result ≡ shown self.now fragment index }
     {
@@ -92,10 +97,13 @@ impl<K: Kind> Sequence<K> {
         ))
     }
 
-    /// Whether the sequence hits a reading: the decision of the rule, which is true exactly when a placement exists.
+    /// Whether the sequence hits a reading: the decision of the rule, which is true exactly when a
+    /// placement exists (docs/PATTERNS.md, "Placements").
     pub fn hits<R: Reading<Element = K>>(&self, reading: &R) -> bool
-        ensures decision { result ≡ hits_by_rule self.now.reference (bodies self.now.items) (codes_of K.alphabet (R.elements reading.now)) }
-        ensures placement { IsTrue result ↔ Placement self.now.reference (bodies self.now.items) (codes_of K.alphabet (R.elements reading.now)) }
+        ensures decision { result ≡ hits_in self.now
+            (codes_of K.alphabet (R.elements reading.now)) }
+        ensures placement { IsTrue result ↔
+            PlacementIn self.now (codes_of K.alphabet (R.elements reading.now)) }
     {
         let fragments = Own {
             fragments: self.fragments.as_slice(),

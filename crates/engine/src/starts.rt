@@ -30,9 +30,11 @@ impl Starts {
         }
     }
 
-    // The first place where the anchor of a placement can stand, `lead` elements behind its start, if a reading can have it.
+    // The first place where the anchor of a placement can stand, `lead` elements behind its start,
+    // if a reading can have it.
     pub(crate) fn first_place(self, lead: u32) -> Option<u32>
-        ensures { MatchOption result (4294967295 < self.from + lead) (λ place. place ≡ self.from + lead) }
+        ensures { MatchOption result (4294967295 < self.from + lead) (λ place. place ≡
+            self.from + lead) }
     {
         place_behind(self.from, u64::from(lead))
     }
@@ -61,7 +63,8 @@ impl Starts {
 
 // The place that stands so many elements behind another, if a reading can have it.
 pub(crate) fn place_behind(place: u64, distance: u64) -> Option<u32>
-    ensures { MatchOption result (4294967295 < place + distance) (λ behind. behind ≡ place + distance) }
+    ensures { MatchOption result (4294967295 < place + distance) (λ behind. behind ≡
+        place + distance) }
 {
     u32::try_from(place.checked_add(distance)?).ok()
 }

@@ -1,4 +1,5 @@
-// Theorems about the definitions, each the contract of a function, so that the check asks for its proof.
+// Theorems about the definitions, each the contract of a function, so that the check asks for its
+// proof.
 ghost use Rattle.engine.specs.Examples.{Examples};
 
 // The worked examples.

@@ -28,6 +28,11 @@ pub record LastOf (code : ℕ) (xs : List ℕ) (from to place : ℕ) : Type 0 wh
   pub stands : slice_get xs place ≡ Some code
   pub none : NoneOf code xs (place + 1) to
 
+-- the last such place, or none
+abbrev pub LastOrNone : ℕ → List ℕ → ℕ → ℕ → Option ℕ → Type 0
+LastOrNone code xs from to None = NoneOf code xs from to
+LastOrNone code xs from to (Some place) = LastOf code xs from to place
+
 -- an opening has a code, which stands at none of the `far` places before `place`
 abbrev pub Excluded : Opening → List ℕ → ℕ → Type 0
 Excluded o xs place = (code : ℕ) × (o.code ≡ Some code) × NoneOf code xs (place - o.far) place

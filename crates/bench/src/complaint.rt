@@ -1,4 +1,5 @@
 // Why nothing was measured.
+use engine::pattern_text::TooLong;
 use std::alloc::AllocError;
 use std::io;
 use thiserror::Error;
@@ -13,6 +14,8 @@ pub enum Complaint {
     Runs,
     #[error("FILE cannot be read: {0}")]
     Unreadable(io::Error),
+    #[error(transparent)]
+    Text(#[from] TooLong),
     #[error(transparent)]
     System(#[from] io::Error),
 }

@@ -1,6 +1,7 @@
 // Measures the search: how long a file's bytes are searched for a pattern text.
 #![tactic(auto)]
 
+use engine::pattern_text::PatternText;
 use engine::text::compiled;
 use kinds::backward::Backward;
 use kinds::byte::Byte;
@@ -38,8 +39,8 @@ fn answer(rt: &HostRuntime, request: Request) -> Result<String, Complaint> {
     let heap = rt.alloc();
     let bytes = bytes_of(rt, request.file)?;
     let held = Held::new(bytes.as_slice());
-    let text = request.text.as_bytes();
-    let sequence = match compiled::<Byte>(heap, 1, ANYWHERE, text) {
+    let text = PatternText::try_from(request.text.as_bytes())?;
+    let sequence = match compiled::<Byte>(1, ANYWHERE, text) {
         Ok(sequence) => sequence,
         Err(failure) => return Ok(failure.to_line(heap)?),
     };

@@ -50,7 +50,8 @@ pub fn compiled<K: Kind>(
     offsets: Offsets,
     text: PatternText,
 ) -> Result<Sequence, Failure>
-    ensures { Compiled K.alphabet text.entry.characters.now number offsets.reference offsets.lo offsets.hi result }
+    ensures { Compiled K.alphabet text.entry.characters.now number
+        offsets.reference offsets.lo offsets.hi result }
 {
     let Offsets { reference, lo, .. } = offsets;
     let pattern = in_order(checked::<K>(number, text)?, reference);
@@ -67,7 +68,8 @@ pub fn compiled<K: Kind>(
 // The numbers of a fragment: break, lead, anchor length and the shift of an index; none where there is no such fragment.
 // Fragments are numbered from 1.
 fn numbers_of(fragments: &[Fragment], number: usize, index: u8) -> Option<(u32, u32, usize, u8)>
-    ensures { (reference : Reference) (items : List Placed) (gs : List spec.Fragment) → Hold reference items fragments.now gs → result ≡ shown reference gs number index }
+    ensures { (reference : Reference) (items : List Placed) (gs : List spec.Fragment)
+        → Hold reference items fragments.now gs → result ≡ shown reference gs number index }
 {
     let fragment = fragments.get(number.checked_sub(1)?)?;
     Some((
@@ -99,7 +101,9 @@ pub fn show<K: Kind>(
 
 // Whether a text, compiled, hits a reading; or the text's refusal.
 pub fn hit<R: Reading>(offsets: Offsets, text: PatternText, reading: &R) -> Result<bool, Failure>
-    ensures { Hit R.Element.alphabet text.entry.characters.now 1 offsets.reference offsets.lo offsets.hi (codes_of R.Element.alphabet (R.elements reading.now)) result }
+    ensures { Hit R.Element.alphabet text.entry.characters.now 1
+        offsets.reference offsets.lo offsets.hi
+        (codes_of R.Element.alphabet (R.elements reading.now)) result }
 {
     let sequence = compiled::<R::Element>(1, offsets, text)?;
     Ok(hits(&sequence, reading))

@@ -1,4 +1,5 @@
 // Why a line has no answer.
+use engine::pattern_text::TooLong;
 use kinds::spelling::SpellingFault;
 use std::alloc::AllocError;
 use thiserror::Error;
@@ -21,6 +22,8 @@ pub enum Complaint {
     NumberOfWords,
     #[error(transparent)]
     Spelling(SpellingFault),
+    #[error(transparent)]
+    TooLong(#[from] TooLong),
     #[error("unknown reference")]
     UnknownReference,
     #[error("not a number from 0 to 65535")]

@@ -1,7 +1,7 @@
 // The commands on pattern texts.
 use crate::complaint::Complaint;
 use crate::elements::elements_of;
-use engine::limits::fragment_count;
+use engine::pattern_text::{PatternText, TooLong};
 use engine::text;
 use engine::text::{checked, show};
 use kinds::byte::Byte;
@@ -52,7 +52,12 @@ impl FromStr for Letter {
     }
 }
 
-impl Words<'_> {
+impl<'l> Words<'l> {
+    // Its pattern text.
+    fn pattern_text(self) -> Result<PatternText<'l>, TooLong> {
+        PatternText::try_from(self.text.as_bytes())
+    }
+
     // Its reference and offsets, as a record has them.
     fn offsets(self) -> Result<Offsets, Complaint> {
         let Letter(reference) = self.reference.parse()?;
@@ -68,9 +73,9 @@ impl Words<'_> {
 
 // The number of a text's fragments, or its refusal.
 pub fn read<K: Kind>(heap: Global, text: &str) -> Result<String, Complaint> {
-    match checked::<K>(heap, 1, text.as_bytes()) {
+    match checked::<K>(1, PatternText::try_from(text.as_bytes())?) {
         Ok(pattern) => {
-            let count = fragment_count(&pattern);
+            let count = pattern.fragment_count();
             Ok(format!(in heap; "ok {count}")?)
         }
         Err(failure) => Ok(failure.to_line(heap)?),
@@ -88,10 +93,9 @@ pub fn shown<K: Kind>(
     let fragment = number_of(fragment)?;
     let index = index_of(index)?;
     match show::<K>(
-        heap,
         reference,
         lo,
-        sequence.text.as_bytes(),
+        sequence.pattern_text()?,
         usize::from(fragment),
         index,
     ) {
@@ -106,9 +110,8 @@ pub fn hit<K: Kind>(heap: Global, sequence: Words, elements: &str) -> Result<Str
     let offsets = sequence.offsets()?;
     let elements: Vec<K> = elements_of(heap, elements)?;
     match text::hit(
-        heap,
         offsets,
-        sequence.text.as_bytes(),
+        sequence.pattern_text()?,
         &Held::new(elements.as_slice()),
     ) {
         Ok(true) => Ok(String::from_str(heap, "hit")?),

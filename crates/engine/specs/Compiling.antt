@@ -44,7 +44,8 @@ pub record Anchors (r : Reference) (is : List Item) (start len : ℕ) : Type 0 w
 
 -- a run of literals is the anchor of parts, whatever codes and runs they have
 abbrev pub AnchorsParts : Reference → List PlacedPart → ℕ → ℕ → Type 0
-AnchorsParts r parts start len = (codes : List ℕ) (runs : List Run) → Anchors r (part_items codes runs parts) start len
+AnchorsParts r parts start len =
+    (codes : List ℕ) (runs : List Run) → Anchors r (part_items codes runs parts) start len
 
 -- a table holds the shifts of codes
 abbrev pub Shifts : List ℕ → List ℕ → Type 0
@@ -52,11 +53,16 @@ Shifts table codes = (index : ℕ) → index < 256 → slice_index table index �
 
 -- The items from the start of a fragment on are cut behind its body, and from the next fragment's start on, if there is one.
 abbrev pub Cuts : List Placed → ℕ → Option (ℕ × ℕ) → Type 0
-Cuts qs end None = (end ≤ length qs) × ((break : ℕ) → cut_from break [] [] qs ≡ record { break = break; body = take end qs } ∷ [])
+Cuts qs end None =
+    (end ≤ length qs)
+    × ((break : ℕ) → cut_from break [] [] qs ≡ record { break = break; body = take end qs } ∷ [])
 Cuts qs end (Some next) =
     (end < next.0) × (next.0 < length qs)
-    × ((break : ℕ) → cut_from break [] [] qs ≡ record { break = break; body = take end qs } ∷ cut_from next.1 [] [] (drop next.0 qs))
+    × ((break : ℕ)
+    → cut_from break [] [] qs
+    ≡ record { break = break; body = take end qs } ∷ cut_from next.1 [] [] (drop next.0 qs))
 
 -- the same of parts, whatever codes and runs they have
 abbrev pub CutsParts : List PlacedPart → ℕ → Option (ℕ × ℕ) → Type 0
-CutsParts parts end next = (codes : List ℕ) (runs : List Run) → Cuts (items codes runs parts) end next
+CutsParts parts end next =
+    (codes : List ℕ) (runs : List Run) → Cuts (items codes runs parts) end next

@@ -15,8 +15,10 @@ run_codes codes r = take r.len (drop r.start codes)
 abbrev pub item_of : List ℕ → List Run → Part → Item
 item_of codes runs (part.Literal c) = literal c
 item_of codes runs part.Any = any
-item_of codes runs (part.Group first count) = group (map (run_codes codes) (take count (drop first runs)))
-item_of codes runs (part.Range direction inside low high) = range direction inside (run_codes codes low) (run_codes codes high)
+item_of codes runs (part.Group first count) =
+    group (map (run_codes codes) (take count (drop first runs)))
+item_of codes runs (part.Range direction inside low high) =
+    range direction inside (run_codes codes low) (run_codes codes high)
 item_of codes runs (part.Other run) = other (run_codes codes run)
 item_of codes runs (part.Gap m n) = gap m n
 
@@ -42,11 +44,13 @@ abbrev pub part_within : List ℕ → List Run → Part → Bool
 part_within codes runs (part.Literal c) = true
 part_within codes runs part.Any = true
 part_within codes runs (part.Group first count) = nat_le (first + count) (length runs)
-part_within codes runs (part.Range direction inside low high) = run_within codes low && run_within codes high
+part_within codes runs (part.Range direction inside low high) =
+    run_within codes low && run_within codes high
 part_within codes runs (part.Other run) = run_within codes run
 part_within codes runs (part.Gap m n) = true
 
 -- all of some parts do
 abbrev pub all_parts_within : List ℕ → List Run → List PlacedPart → Bool
 all_parts_within codes runs [] = true
-all_parts_within codes runs (p ∷ ps) = part_within codes runs p.part && all_parts_within codes runs ps
+all_parts_within codes runs (p ∷ ps) =
+    part_within codes runs p.part && all_parts_within codes runs ps

@@ -12,12 +12,23 @@ empty = record { start = None; span = 0; literal = false; endless = false }
 
 -- one item
 abbrev pub single : Placed → Stretch
-single q = record { start = Some q.place; span = span q.item; literal = is_literal q.item; endless = endless q.item }
+single q =
+    record {
+      start = Some q.place;
+      span = span q.item;
+      literal = is_literal q.item;
+      endless = endless q.item;
+    }
 
 -- items and those that follow them; a span that does not fit is the greatest that does
 abbrev pub joined : Stretch → Stretch → Stretch
 joined a b =
-    record { start = option_or a.start b.start; span = min (a.span + b.span) (2 ^ 32 - 1); literal = a.literal || b.literal; endless = a.endless || b.endless }
+    record {
+      start = option_or a.start b.start;
+      span = min (a.span + b.span) (2 ^ 32 - 1);
+      literal = a.literal || b.literal;
+      endless = a.endless || b.endless;
+    }
 
 -- before the first item
 abbrev pub initial : Tally
@@ -34,26 +45,28 @@ closed t =
       ended = t.ended + 1;
       body = empty;
       row = empty;
-      limit = smallest_with t.limit (nat_le 8 t.ended || nat_lt 1024 t.body.span) (unwrap_or t.body.start 0);
+      limit =
+          smallest_with t.limit (nat_le 8 t.ended || nat_lt 1024 t.body.span)
+          (unwrap_or t.body.start 0);
       bare = if t.body.literal then t.bare else option_or t.bare (Some (unwrap_or t.body.start 0));
     }
 
 -- an item is judged by itself
 abbrev pub judged : Tally → Placed → Tally
 judged t q =
-    record { ended = t.ended; body = t.body; row = t.row; limit = smallest_with t.limit (wrong q.item) q.place; bare = t.bare }
+    record t { limit = smallest_with t.limit (wrong q.item) q.place }
 
 -- one more gap
 abbrev pub with_gap : Tally → Stretch → Tally
-with_gap t s = record { ended = t.ended; body = t.body; row = joined t.row s; limit = t.limit; bare = t.bare }
+with_gap t s = record t { row = joined t.row s }
 
 -- a thing begins a fragment
 abbrev pub begun : Tally → Stretch → Tally
-begun t s = record { ended = (closed t).ended; body = s; row = empty; limit = (closed t).limit; bare = (closed t).bare }
+begun t s = let after = closed t in record after { body = s }
 
 -- the gaps and a thing behind them are items of the fragment
 abbrev pub extended : Tally → Stretch → Tally
-extended t s = record { ended = t.ended; body = joined (joined t.body t.row) s; row = empty; limit = t.limit; bare = t.bare }
+extended t s = record t { body = joined (joined t.body t.row) s; row = empty }
 
 -- one more thing: it begins a fragment where the row of gaps before it has no upper end
 abbrev pub with_thing : Tally → Stretch → Tally
@@ -61,7 +74,8 @@ with_thing t s = if t.row.endless then begun t s else extended t s
 
 -- one more item
 abbrev pub with_item : Tally → Placed → Tally
-with_item t q = if is_gap q.item then with_gap (judged t q) (single q) else with_thing (judged t q) (single q)
+with_item t q =
+    if is_gap q.item then with_gap (judged t q) (single q) else with_thing (judged t q) (single q)
 
 -- all items of a list
 abbrev pub tallied : Tally → List Placed → Tally

@@ -15,7 +15,8 @@ abbrev pub turned_part : ℕ → Part → Part
 turned_part n (part.Literal c) = part.Literal c
 turned_part n part.Any = part.Any
 turned_part n (part.Group first count) = part.Group first count
-turned_part n (part.Range direction inside low high) = part.Range (turned direction) inside (turned_run n low) (turned_run n high)
+turned_part n (part.Range direction inside low high) =
+    part.Range (turned direction) inside (turned_run n low) (turned_run n high)
 turned_part n (part.Other run) = part.Other (turned_run n run)
 turned_part n (part.Gap least most) = part.Gap least most
 

@@ -184,7 +184,8 @@ impl Pattern {
         requires ordered { first ≤ end }
         requires inside { end ≤ length self.now.parts.items }
         requires few { length (literals_of (bodies (held self.now))) ≤ MOST_CODES }
-        ensures { Holds reference (held self.now) result (record { break = gap; body = take (end - first) (drop first (held self.now)) }) }
+        ensures { Holds reference (held self.now) result
+            (record { break = gap; body = take (end - first) (drop first (held self.now)) }) }
     {
         let body = &self.parts[first..end];
         let Literals { start, len } = anchor(body, reference);

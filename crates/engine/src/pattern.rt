@@ -7,8 +7,8 @@ ghost use Rattle.patterns.specs.Patterns.{group};
 use arrayvec::ArrayVec;
 use patterns::Direction;
 
-// A pattern text has at most 200 characters. A code in a list takes two of them, a run three, as it has a code and stands beside a
-// bar, a bracket or a colon, and the first item takes two.
+// A pattern text has at most 200 characters. A literal takes two of them, a run three, as it has a literal and a mark beside it,
+// and each item one, but the first takes two.
 pub(crate) const MOST_CODES: usize = 100;
 
 pub(crate) const MOST_RUNS: usize = 66;
@@ -63,7 +63,8 @@ pub(crate) struct Extent {
 
 // The extent of one of some runs, 0 where there is none.
 fn extent_of(runs: &[Run]) -> Extent
-    ensures { (codes : List ℕ) → all_runs_within codes runs.now ≡ true → result ≡ extent (group (map (run_codes codes) runs.now)) }
+    ensures { (codes : List ℕ) → all_runs_within codes runs.now ≡ true
+        → result ≡ extent (group (map (run_codes codes) runs.now)) }
 {
     let least = runs.iter().map(|run| run.len).min().unwrap_or(0);
     let span = runs.iter().map(|run| run.len).max().unwrap_or(0);

@@ -21,7 +21,9 @@ pub struct TooLong;
 impl<'t> TryFrom<&'t [u8]> for PatternText<'t> {
     type Error = TooLong;
 
-    ghost try_from_gives = { λ t r. MatchResult r (λ text. (text.characters.now ≡ t.now) × (length t.now ≤ 200)) (λ _. 200 < length t.now) };
+    ghost try_from_gives = { λ characters r. MatchResult r
+        (λ text. (text.characters.now ≡ characters.now) × (length characters.now ≤ 200))
+        (λ _. 200 < length characters.now) };
 
     fn try_from(characters: &'t [u8]) -> Result<PatternText<'t>, TooLong> {
         if characters.len() > MOST_CHARACTERS {

@@ -12,7 +12,7 @@ use Rattle.engine.specs.Compiled.{literal_codes, anchor_at, Holds, Hold}
 use Rattle.engine.specs.Compiling.{part_codes, part_items, Anchors, Shifts, Cuts}
 use Rattle.engine.specs.Reading.{held}
 use Rattle.engine.specs.Stored.{items, placed_of}
-use Rattle.engine.specs.declared.fragment.Cut.{Cut}
+use Rattle.engine.specs.declared.fragment.FirstCut.{FirstCut}
 use Rattle.engine.specs.declared.fragment.Fragment.{Fragment}
 use Rattle.engine.specs.declared.pattern.PlacedPart.{PlacedPart}
 use Rattle.engine.specs.declared.pattern.Pattern.{Pattern}
@@ -124,7 +124,7 @@ module _ (r : Reference) (qs : List Placed) where
     completes_last cuts = so_far (f ∷ []) (subst (Hold r qs (f ∷ [])) (sym (cuts.1 gap)) (cut_body, tt))
 
 -- a turn of the loop over the fragments: the parts from a place on were cut
-module _ (p : Pattern) (slice : List PlacedPart) (slice_is : slice ≡ p.parts.items) (first : ℕ) (inside : first ≤ length slice) (cut : Cut)
+module _ (p : Pattern) (slice : List PlacedPart) (slice_is : slice ≡ p.parts.items) (first : ℕ) (inside : first ≤ length slice) (cut : FirstCut)
     (cuts_all : (codes : List ℕ) (runs : List Run) → Cuts (items codes runs (take (length slice - first) (drop first slice))) cut.end cut.next) where
   -- the slice is as long as the items
   as_long : length slice ≡ length (held p)

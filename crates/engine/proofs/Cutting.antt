@@ -30,16 +30,16 @@ some_more p [] q = or_false (p q.item)
 some_more p (x ∷ qs) q = ap (λ b. p x.item || b) (some_more p qs q) ∙ sym (or_assoc (p x.item) (some p qs) (p q.item))
 
 module _ (qs : List Placed) where
-  -- the row of gaps from the end of a body to here
-  abbrev pub row : ℕ → ℕ → List Placed
-  row end i = take (i - end) (drop end qs)
+  -- the spacing from the end of a body to here
+  abbrev pub spacing : ℕ → ℕ → List Placed
+  spacing end i = take (i - end) (drop end qs)
 
-  -- What was read: a body up to its end, and the row behind it, whether one of its gaps is endless and their least sum.
+  -- What was read: a body up to its end, and the spacing behind it, whether one of its gaps is endless and their least sum.
   pub record Cutting (end i : ℕ) (open_ended : Bool) (between : ℕ) : Type 0 where
     pub ordered : end ≤ i
-    pub tested : open_ended ≡ some endless (row end i)
-    pub summed : between ≡ sum least (row end i)
-    pub cuts : (break : ℕ) → cut_from break [] [] qs ≡ cut_from break (take end qs) (row end i) (drop i qs)
+    pub tested : open_ended ≡ some endless (spacing end i)
+    pub summed : between ≡ sum least (spacing end i)
+    pub cuts : (break : ℕ) → cut_from break [] [] qs ≡ cut_from break (take end qs) (spacing end i) (drop i qs)
 
   module _ (end i : ℕ) (open_ended : Bool) (between : ℕ) (so_far : Cutting end i open_ended between) where
     module _ (q : Placed) (inside : i < length qs) (here : get_or qs i q ≡ q) where
@@ -47,57 +47,57 @@ module _ (qs : List Placed) where
       next : drop i qs ≡ q ∷ drop (i + 1) qs
       next = drop_more qs i q inside ∙ ap (λ x. x ∷ drop (i + 1) qs) here
 
-      -- the row with this item
-      more : row end (i + 1) ≡ row end i ++ q ∷ []
-      more = stretch_more qs end i q so_far.ordered inside ∙ ap (λ x. row end i ++ x ∷ []) here
+      -- the spacing with this item
+      more : spacing end (i + 1) ≡ spacing end i ++ q ∷ []
+      more = stretch_more qs end i q so_far.ordered inside ∙ ap (λ x. spacing end i ++ x ∷ []) here
 
-      -- one step, by whether the item is a gap and the row has an endless one
+      -- one step, by whether the item is a gap and the spacing has an endless one
       abbrev step : ℕ → Bool → Bool → List Fragment
       step break gap ended =
           elim gap [
-            | true ↦ cut_from break (take end qs) (row end i ++ q ∷ []) (drop (i + 1) qs)
+            | true ↦ cut_from break (take end qs) (spacing end i ++ q ∷ []) (drop (i + 1) qs)
             | false ↦
                 elim ended [
-                  | true ↦ record { break = break; body = take end qs } ∷ cut_from (sum least (row end i)) (q ∷ []) [] (drop (i + 1) qs)
-                  | false ↦ cut_from break (take end qs ++ (row end i ++ q ∷ [])) [] (drop (i + 1) qs)
+                  | true ↦ record { break = break; body = take end qs } ∷ cut_from (sum least (spacing end i)) (q ∷ []) [] (drop (i + 1) qs)
+                  | false ↦ cut_from break (take end qs ++ (spacing end i ++ q ∷ [])) [] (drop (i + 1) qs)
                 ]
           ]
 
       -- the cut of the items goes on with that step
-      stepped : (break : ℕ) → cut_from break [] [] qs ≡ step break (is_gap q.item) (some endless (row end i))
-      stepped break = so_far.cuts break ∙ ap (cut_from break (take end qs) (row end i)) next
+      stepped : (break : ℕ) → cut_from break [] [] qs ≡ step break (is_gap q.item) (some endless (spacing end i))
+      stepped break = so_far.cuts break ∙ ap (cut_from break (take end qs) (spacing end i)) next
 
-      -- a gap goes on with the row
+      -- a gap goes on with the spacing
       pub cutting_gap : is_gap q.item ≡ true → (e : Bool) → e ≡ (open_ended || endless q.item) → (n : ℕ) → n ≡ between + least q.item → Cutting end (i + 1) e n
       cutting_gap gap e e_is n n_is =
           let before = so_far.ordered in
           record {
             ordered = omega arith;
-            tested = e_is ∙ ap (λ b. b || endless q.item) so_far.tested ∙ sym (some_more endless (row end i) q) ∙ ap (some endless) (sym more);
-            summed = n_is ∙ ap (λ k. k + least q.item) so_far.summed ∙ sym (sum_push least (row end i) q) ∙ ap (sum least) (sym more);
-            cuts = λ break. stepped break ∙ ap (λ b. step break b (some endless (row end i))) gap ∙ ap (λ xs. cut_from break (take end qs) xs (drop (i + 1) qs)) (sym more);
+            tested = e_is ∙ ap (λ b. b || endless q.item) so_far.tested ∙ sym (some_more endless (spacing end i) q) ∙ ap (some endless) (sym more);
+            summed = n_is ∙ ap (λ k. k + least q.item) so_far.summed ∙ sym (sum_push least (spacing end i) q) ∙ ap (sum least) (sym more);
+            cuts = λ break. stepped break ∙ ap (λ b. step break b (some endless (spacing end i))) gap ∙ ap (λ xs. cut_from break (take end qs) xs (drop (i + 1) qs)) (sym more);
           }
 
-      -- a thing behind a row without an endless gap takes the row into the body
+      -- a thing behind a spacing without an endless gap takes the spacing into the body
       pub cutting_thing : is_gap q.item ≡ false → open_ended ≡ false → Cutting (i + 1) (i + 1) false 0
       cutting_thing thing shut =
           let before = so_far.ordered in
           let none : i + 1 - (i + 1) ≡ 0 = omega arith in
-          let empty : row (i + 1) (i + 1) ≡ [] = ap (λ n. take n (drop (i + 1) qs)) none in
+          let empty : spacing (i + 1) (i + 1) ≡ [] = ap (λ n. take n (drop (i + 1) qs)) none in
           let on : end + (i + 1 - end) ≡ i + 1 = omega arith in
-          let body : take end qs ++ (row end i ++ q ∷ []) ≡ take (i + 1) qs = ap (λ xs. take end qs ++ xs) (sym more) ∙ sym (take-add end (i + 1 - end) qs) ∙ ap (λ n. take n qs) on in
+          let body : take end qs ++ (spacing end i ++ q ∷ []) ≡ take (i + 1) qs = ap (λ xs. take end qs ++ xs) (sym more) ∙ sym (take-add end (i + 1 - end) qs) ∙ ap (λ n. take n qs) on in
           record {
             ordered = omega arith;
             tested = sym (ap (some endless) empty);
             summed = sym (ap (sum least) empty);
             cuts = λ break. stepped break
-                ∙ ap (λ b. step break b (some endless (row end i))) thing
+                ∙ ap (λ b. step break b (some endless (spacing end i))) thing
                 ∙ ap (step break false) (sym so_far.tested ∙ shut)
                 ∙ ap (λ xs. cut_from break xs [] (drop (i + 1) qs)) body
                 ∙ ap (λ xs. cut_from break (take (i + 1) qs) xs (drop (i + 1) qs)) (sym empty);
           }
 
-      -- a thing behind a row with an endless gap begins the next fragment
+      -- a thing behind a spacing with an endless gap begins the next fragment
       pub cutting_cuts : is_gap q.item ≡ false → open_ended ≡ true → Cuts qs end (Some (i, between))
       cutting_cuts thing opened =
           let before = so_far.ordered in
@@ -110,7 +110,7 @@ module _ (qs : List Placed) where
             omega (arith, some_row),
             inside,
             λ break. stepped break
-                ∙ ap (λ b. step break b (some endless (row end i))) thing
+                ∙ ap (λ b. step break b (some endless (spacing end i))) thing
                 ∙ ap (step break false) (sym so_far.tested ∙ opened)
                 ∙ ap (λ n. record { break = break; body = take end qs } ∷ cut_from n (q ∷ []) [] (drop (i + 1) qs)) (sym so_far.summed)
                 ∙ ap (λ fs. record { break = break; body = take end qs } ∷ fs) (sym (first between)),

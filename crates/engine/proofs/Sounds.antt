@@ -189,28 +189,28 @@ opened from [] = []
 opened from (g ∷ gs) = record { break = from; body = g.body } ∷ gs
 
 -- they are those cut with that break
-pub opened_cut : (qs : List Placed) (from lo : ℕ) (body row : List Placed) → opened from (cut_from lo body row qs) ≡ cut_from from body row qs
-opened_cut [] from lo body row = refl
-opened_cut (q ∷ qs) from lo body row =
+pub opened_cut : (qs : List Placed) (from lo : ℕ) (body spacing : List Placed) → opened from (cut_from lo body spacing qs) ≡ cut_from from body spacing qs
+opened_cut [] from lo body spacing = refl
+opened_cut (q ∷ qs) from lo body spacing =
     elim (cases_Bool (is_gap q.item)) [
-      | inl y ↦ ap (opened from) (cut_gap lo body row q qs y) ∙ opened_cut qs from lo body (row ++ q ∷ []) ∙ sym (cut_gap from body row q qs y)
+      | inl y ↦ ap (opened from) (cut_gap lo body spacing q qs y) ∙ opened_cut qs from lo body (spacing ++ q ∷ []) ∙ sym (cut_gap from body spacing q qs y)
       | inr n ↦
-          elim (cases_Bool (some endless row)) [
-            | inl y ↦ ap (opened from) (cut_thing lo body row q qs n y) ∙ sym (cut_thing from body row q qs n y)
-            | inr m ↦ ap (opened from) (cut_held lo body row q qs n m) ∙ opened_cut qs from lo (body ++ (row ++ q ∷ [])) [] ∙ sym (cut_held from body row q qs n m)
+          elim (cases_Bool (some endless spacing)) [
+            | inl y ↦ ap (opened from) (cut_thing lo body spacing q qs n y) ∙ sym (cut_thing from body spacing q qs n y)
+            | inr m ↦ ap (opened from) (cut_held lo body spacing q qs n m) ∙ opened_cut qs from lo (body ++ (spacing ++ q ∷ [])) [] ∙ sym (cut_held from body spacing q qs n m)
           ]
     ]
 
 -- there is a fragment at least
-pub cut_some : (qs : List Placed) (break : ℕ) (body row : List Placed) → cut_from break body row qs ≡ [] → ⊥
-cut_some [] break body row e = cc
-cut_some (q ∷ qs) break body row e =
+pub cut_some : (qs : List Placed) (break : ℕ) (body spacing : List Placed) → cut_from break body spacing qs ≡ [] → ⊥
+cut_some [] break body spacing e = cc
+cut_some (q ∷ qs) break body spacing e =
     elim (cases_Bool (is_gap q.item)) [
-      | inl y ↦ cut_some qs break body (row ++ q ∷ []) (sym (cut_gap break body row q qs y) ∙ e)
+      | inl y ↦ cut_some qs break body (spacing ++ q ∷ []) (sym (cut_gap break body spacing q qs y) ∙ e)
       | inr n ↦
-          elim (cases_Bool (some endless row)) [
-            | inl y ↦ let none = sym (cut_thing break body row q qs n y) ∙ e in cc
-            | inr m ↦ cut_some qs break (body ++ (row ++ q ∷ [])) [] (sym (cut_held break body row q qs n m) ∙ e)
+          elim (cases_Bool (some endless spacing)) [
+            | inl y ↦ let none = sym (cut_thing break body spacing q qs n y) ∙ e in cc
+            | inr m ↦ cut_some qs break (body ++ (spacing ++ q ∷ [])) [] (sym (cut_held break body spacing q qs n m) ∙ e)
           ]
     ]
 

@@ -9,7 +9,7 @@ use Rattle.engine.specs.Limits.{refusal}
 use Rattle.engine.specs.Tallies.{empty, single, joined, initial, smallest_with, closed, judged, with_gap, begun, extended, with_thing, with_item, tallied}
 use Rattle.engine.specs.declared.cause.Cause.{Cause}
 use Rattle.engine.specs.declared.cause.Cause.TheVariants.{Limit, NoLiteral}
-use Rattle.engine.specs.declared.limits.Stretch.{Stretch}
+use Rattle.engine.specs.declared.limits.Section.{Section}
 use Rattle.engine.specs.declared.limits.Tally.{Tally}
 
 -- Smallest places.
@@ -68,7 +68,7 @@ some_append p [] qs = refl
 some_append p (x ∷ ps) qs = ap (λ b. p x.item || b) (some_append p ps qs) ∙ sym (or_assoc (p x.item) (some p ps) (some p qs))
 
 -- A stretch keeps what counts of some items. A span counts up to the greatest that fits.
-pub record Keeps (s : Stretch) (qs : List Placed) : Type 0 where
+pub record Keeps (s : Section) (qs : List Placed) : Type 0 where
   pub start : s.start ≡ start_of qs
   pub spans : min s.span (2 ^ 32 - 1) ≡ min (sum span qs) (2 ^ 32 - 1)
   pub literals : s.literal ≡ some is_literal qs
@@ -89,7 +89,7 @@ keeps_single q =
     record { start = refl; spans = omega arith; literals = or_false (is_literal q.item); ends = or_false (endless q.item) }
 
 -- items and those behind them are kept
-keeps_joined : (a b : Stretch) (ps qs : List Placed) → Keeps a ps → Keeps b qs → Keeps (joined a b) (ps ++ qs)
+keeps_joined : (a b : Section) (ps qs : List Placed) → Keeps a ps → Keeps b qs → Keeps (joined a b) (ps ++ qs)
 keeps_joined a b ps qs h k =
     record {
       start = ap₂ option_or h.start k.start ∙ sym (start_append ps qs);
@@ -99,11 +99,11 @@ keeps_joined a b ps qs h k =
     }
 
 -- what is kept passes the limit of a span where the items do
-over_alike : (s : Stretch) (qs : List Placed) → Keeps s qs → ltb 1024 s.span ≡ ltb 1024 (sum span qs)
+over_alike : (s : Section) (qs : List Placed) → Keeps s qs → ltb 1024 s.span ≡ ltb 1024 (sum span qs)
 over_alike s qs h = let e = h.spans in grind (arith, nat_tests)
 
 -- what is kept begins where the fragment does
-first_alike : (s : Stretch) (qs : List Placed) → Keeps s qs → unwrap_or s.start 0 ≡ first_place qs
+first_alike : (s : Section) (qs : List Placed) → Keeps s qs → unwrap_or s.start 0 ≡ first_place qs
 first_alike s qs h = ap (λ o. unwrap_or o 0) h.start ∙ start_first qs
 
 -- What a tally gives.
@@ -148,60 +148,60 @@ ended_gives t break body k qs r fs h =
 -- what a tally gives of the items to come, whatever came before
 abbrev GivesOn : List Placed → Type 0
 GivesOn qs =
-    (t : Tally) (break : ℕ) (body row : List Placed)
-    → Keeps t.body body → Keeps t.row row → Gives (closed (tallied t qs)) t.ended (wrong_place t.limit qs) t.bare (cut_from break body row qs)
+    (t : Tally) (break : ℕ) (body spacing : List Placed)
+    → Keeps t.body body → Keeps t.spacing spacing → Gives (closed (tallied t qs)) t.ended (wrong_place t.limit qs) t.bare (cut_from break body spacing qs)
 
 -- the fragments, where a thing begins one or not
 abbrev divided : Bool → ℕ → List Placed → List Placed → Placed → List Placed → List Fragment
-divided cuts break body row q qs =
+divided cuts break body spacing q qs =
     elim cuts [
-      | true ↦ record { break = break; body = body } ∷ cut_from (sum least row) (q ∷ []) [] qs
-      | false ↦ cut_from break (body ++ (row ++ q ∷ [])) [] qs
+      | true ↦ record { break = break; body = body } ∷ cut_from (sum least spacing) (q ∷ []) [] qs
+      | false ↦ cut_from break (body ++ (spacing ++ q ∷ [])) [] qs
     ]
 
 -- one item, and what is given of those behind it
-module _ (q : Placed) (qs : List Placed) (later : GivesOn qs) (t : Tally) (break : ℕ) (body row : List Placed) (k : Keeps t.body body) (l : Keeps t.row row) where
+module _ (q : Placed) (qs : List Placed) (later : GivesOn qs) (t : Tally) (break : ℕ) (body spacing : List Placed) (k : Keeps t.body body) (l : Keeps t.spacing spacing) where
   -- a thing, which begins a fragment or not
   thing_gives : (cuts : Bool)
-      → Gives (closed (tallied (cond cuts (begun t (single q)) (extended t (single q))) qs)) t.ended (wrong_place t.limit qs) t.bare (divided cuts break body row q qs)
+      → Gives (closed (tallied (cond cuts (begun t (single q)) (extended t (single q))) qs)) t.ended (wrong_place t.limit qs) t.bare (divided cuts break body spacing q qs)
   thing_gives true =
-      ended_gives t break body k qs _ (cut_from (sum least row) (q ∷ []) [] qs) (later _ (sum least row) (q ∷ []) [] (keeps_single q) keeps_empty)
+      ended_gives t break body k qs _ (cut_from (sum least spacing) (q ∷ []) [] qs) (later _ (sum least spacing) (q ∷ []) [] (keeps_single q) keeps_empty)
   thing_gives false =
-      let all = keeps_joined _ (single q) (body ++ row) (q ∷ []) (keeps_joined t.body t.row body row k l) (keeps_single q) in
-      later _ break (body ++ (row ++ q ∷ [])) [] (subst (Keeps _) (append_assoc body row (q ∷ [])) all) keeps_empty
+      let all = keeps_joined _ (single q) (body ++ spacing) (q ∷ []) (keeps_joined t.body t.spacing body spacing k l) (keeps_single q) in
+      later _ break (body ++ (spacing ++ q ∷ [])) [] (subst (Keeps _) (append_assoc body spacing (q ∷ [])) all) keeps_empty
 
   -- a gap or a thing
   item_gives : (gap : Bool)
       → Gives
       (closed (tallied (cond gap (with_gap t (single q)) (with_thing t (single q))) qs))
       t.ended (wrong_place t.limit qs) t.bare
-      (elim gap [ true ↦ cut_from break body (row ++ q ∷ []) qs | false ↦ divided (some endless row) break body row q qs ])
-  item_gives true = later _ break body (row ++ q ∷ []) k (keeps_joined t.row (single q) row (q ∷ []) l (keeps_single q))
+      (elim gap [ true ↦ cut_from break body (spacing ++ q ∷ []) qs | false ↦ divided (some endless spacing) break body spacing q qs ])
+  item_gives true = later _ break body (spacing ++ q ∷ []) k (keeps_joined t.spacing (single q) spacing (q ∷ []) l (keeps_single q))
   item_gives false =
       subst
-      (λ b. Gives (closed (tallied (with_thing t (single q)) qs)) t.ended (wrong_place t.limit qs) t.bare (divided b break body row q qs))
+      (λ b. Gives (closed (tallied (with_thing t (single q)) qs)) t.ended (wrong_place t.limit qs) t.bare (divided b break body spacing q qs))
       l.ends
-      (thing_gives t.row.endless)
+      (thing_gives t.spacing.endless)
 
 -- a tally gives what the fragments give, whatever came before
 gives_on : (qs : List Placed) → GivesOn qs
-gives_on [] t break body row k l =
+gives_on [] t break body spacing k l =
     ended_gives t break body k [] (closed t) [] (record { count = omega arith; limits = refl; bares = or_none (closed t).bare })
-gives_on (q ∷ qs) t break body row k l = item_gives q qs (gives_on qs) (judged t q) break body row k l (is_gap q.item)
+gives_on (q ∷ qs) t break body spacing k l = item_gives q qs (gives_on qs) (judged t q) break body spacing k l (is_gap q.item)
 
 -- The tally of all items gives their limit, their first fragment without a literal and the number of their fragments.
 pub tally_gives : (qs : List Placed) → Gives (closed (tallied initial qs)) 0 (wrong_place None qs) None (fragments 0 qs)
 tally_gives qs = gives_on qs initial 0 [] [] keeps_empty keeps_empty
 
 -- a thing ends at most one fragment
-thing_ended : (b : Bool) (t : Tally) (s : Stretch) → (cond b (begun t s) (extended t s)).ended ≤ t.ended + 1
+thing_ended : (b : Bool) (t : Tally) (s : Section) → (cond b (begun t s) (extended t s)).ended ≤ t.ended + 1
 thing_ended true t s = omega arith
 thing_ended false t s = omega arith
 
 -- and a gap none
-item_ended : (b : Bool) (t : Tally) (s : Stretch) → (cond b (with_gap t s) (with_thing t s)).ended ≤ t.ended + 1
+item_ended : (b : Bool) (t : Tally) (s : Section) → (cond b (with_gap t s) (with_thing t s)).ended ≤ t.ended + 1
 item_ended true t s = omega arith
-item_ended false t s = thing_ended t.row.endless t s
+item_ended false t s = thing_ended t.spacing.endless t s
 
 -- an item ends at most one fragment
 pub with_item_ended : (t : Tally) (q : Placed) → (with_item t q).ended ≤ t.ended + 1

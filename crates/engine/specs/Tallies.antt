@@ -3,15 +3,15 @@ use Rattle.std.specs.Prelude.{ℕ, ◌+◌, ◌-◌, ◌^◌, min, Bool, false, 
 use Rattle.std.specs.Option.{option_or, unwrap_or}
 use Rattle.patterns.specs.Fragments.{span, is_gap, endless, wrong, least_with, is_literal}
 use Rattle.patterns.specs.Grammar.{Placed}
-use Rattle.engine.specs.declared.limits.Stretch.{Stretch}
+use Rattle.engine.specs.declared.limits.Section.{Section}
 use Rattle.engine.specs.declared.limits.Tally.{Tally}
 
 -- no items
-abbrev pub empty : Stretch
+abbrev pub empty : Section
 empty = record { start = None; span = 0; literal = false; endless = false }
 
 -- one item
-abbrev pub single : Placed → Stretch
+abbrev pub single : Placed → Section
 single q =
     record {
       start = Some q.place;
@@ -21,7 +21,7 @@ single q =
     }
 
 -- items and those that follow them; a span that does not fit is the greatest that does
-abbrev pub joined : Stretch → Stretch → Stretch
+abbrev pub joined : Section → Section → Section
 joined a b =
     record {
       start = option_or a.start b.start;
@@ -32,7 +32,7 @@ joined a b =
 
 -- before the first item
 abbrev pub initial : Tally
-initial = record { ended = 0; body = empty; row = empty; limit = None; bare = None }
+initial = record { ended = 0; body = empty; spacing = empty; limit = None; bare = None }
 
 -- a place that may be beyond a limit, and the smallest that was found before
 abbrev pub smallest_with : Option ℕ → Bool → ℕ → Option ℕ
@@ -44,7 +44,7 @@ closed t =
     record {
       ended = t.ended + 1;
       body = empty;
-      row = empty;
+      spacing = empty;
       limit =
           smallest_with t.limit (nat_le 8 t.ended || nat_lt 1024 t.body.span)
           (unwrap_or t.body.start 0);
@@ -57,20 +57,20 @@ judged t q =
     record t { limit = smallest_with t.limit (wrong q.item) q.place }
 
 -- one more gap
-abbrev pub with_gap : Tally → Stretch → Tally
-with_gap t s = record t { row = joined t.row s }
+abbrev pub with_gap : Tally → Section → Tally
+with_gap t s = record t { spacing = joined t.spacing s }
 
 -- a thing begins a fragment
-abbrev pub begun : Tally → Stretch → Tally
+abbrev pub begun : Tally → Section → Tally
 begun t s = let after = closed t in record after { body = s }
 
 -- the gaps and a thing behind them are items of the fragment
-abbrev pub extended : Tally → Stretch → Tally
-extended t s = record t { body = joined (joined t.body t.row) s; row = empty }
+abbrev pub extended : Tally → Section → Tally
+extended t s = record t { body = joined (joined t.body t.spacing) s; spacing = empty }
 
--- one more thing: it begins a fragment where the row of gaps before it has no upper end
-abbrev pub with_thing : Tally → Stretch → Tally
-with_thing t s = if t.row.endless then begun t s else extended t s
+-- one more thing: it begins a fragment where the spacing before it has no upper end
+abbrev pub with_thing : Tally → Section → Tally
+with_thing t s = if t.spacing.endless then begun t s else extended t s
 
 -- one more item
 abbrev pub with_item : Tally → Placed → Tally

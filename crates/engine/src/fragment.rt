@@ -118,14 +118,14 @@ fn anchor(parts: &[PlacedPart], reference: Reference) -> Literals
 // Where a fragment's body ends, and where the fragment behind it starts, if there is one, with the least number of
 // elements between them.
 #[derive(Clone, Copy)]
-struct Cut {
+struct FirstCut {
     end: usize,
     next: Option<(usize, u32)>,
 }
 
-// Cuts the first fragment off the parts that it begins: behind its body, and at the thing behind the first row of gaps
-// that has one without upper end.
-fn cut_first(parts: &[PlacedPart]) -> Cut
+// Cuts the first fragment off the parts that it begins: behind its body, and at the thing behind the first
+// spacing that has a gap without upper end.
+fn cut_first(parts: &[PlacedPart]) -> FirstCut
     requires { length parts.now ≤ MOST_PARTS }
     ensures { CutsParts parts.now result.end result.next }
 {
@@ -140,7 +140,7 @@ fn cut_first(parts: &[PlacedPart]) -> Cut
             }
             _ if endless => {
                 let next = Some((i, between));
-                return Cut { end, next };
+                return FirstCut { end, next };
             }
             _ => {
                 end = i + 1;
@@ -148,7 +148,7 @@ fn cut_first(parts: &[PlacedPart]) -> Cut
             }
         }
     }
-    Cut { end, next: None }
+    FirstCut { end, next: None }
 }
 
 // The codes of the literals among parts.

@@ -20,20 +20,20 @@ pub(crate) const LONGEST_SPAN: u32 = 1024;
 // What is kept of items that follow each other: where they begin, how many elements they span, whether a literal is among
 // them, and whether a gap without upper end is.
 #[derive(Clone, Copy)]
-struct Stretch {
+struct Section {
     start: Option<u8>,
     span: u32,
     literal: bool,
     endless: bool,
 }
 
-// What is kept of the items up to a place: how many fragments have ended, the items of the one that has not and the row of
-// gaps behind them, the smallest place beyond a limit, and where the first fragment without a literal begins.
+// What is kept of the items up to a place: how many fragments have ended, the items of the one that has not and the spacing
+// behind them, the smallest place beyond a limit, and where the first fragment without a literal begins.
 #[derive(Clone, Copy)]
 struct Tally {
     ended: u8,
-    body: Stretch,
-    row: Stretch,
+    body: Section,
+    spacing: Section,
     limit: Option<u8>,
     bare: Option<u8>,
 }
@@ -82,9 +82,9 @@ impl Pattern {
     }
 }
 
-impl Stretch {
+impl Section {
     // No items.
-    const EMPTY: Stretch = Stretch {
+    const EMPTY: Section = Section {
         start: None,
         span: 0,
         literal: false,
@@ -92,11 +92,11 @@ impl Stretch {
     };
 
     // One item.
-    fn of(pattern: &Pattern, part: PlacedPart) -> Stretch
+    fn of(pattern: &Pattern, part: PlacedPart) -> Section
         requires { HasPart pattern.now part.part }
         ensures { result ≡ single (placed_in pattern.now part) }
     {
-        Stretch {
+        Section {
             start: Some(part.place),
             span: u32::from(pattern.extent(part.part).span),
             literal: matches!(part.part, Part::Literal(_)),
@@ -105,10 +105,10 @@ impl Stretch {
     }
 
     // These items and those that follow them.
-    fn followed_by(self, next: Stretch) -> Stretch
+    fn followed_by(self, next: Section) -> Section
         ensures { result ≡ joined self next }
     {
-        Stretch {
+        Section {
             start: self.start.or(next.start),
             span: self.span.saturating_add(next.span),
             literal: self.literal || next.literal,
@@ -123,8 +123,8 @@ impl Tally {
     // Before the first item.
     const INITIAL: Tally = Tally {
         ended: 0,
-        body: Stretch::EMPTY,
-        row: Stretch::EMPTY,
+        body: Section::EMPTY,
+        spacing: Section::EMPTY,
         limit: None,
         bare: None,
     };
@@ -138,37 +138,37 @@ impl Tally {
         let beyond = usize::from(self.ended) >= MOST_FRAGMENTS || self.body.span > LONGEST_SPAN;
         Tally {
             ended: self.ended + 1,
-            body: Stretch::EMPTY,
-            row: Stretch::EMPTY,
+            body: Section::EMPTY,
+            spacing: Section::EMPTY,
             limit: smaller(self.limit, beyond.then_some(start)),
             bare: self.bare.or((!self.body.literal).then_some(start)),
         }
     }
 
     // One more gap.
-    fn with_gap(self, gap: Stretch) -> Tally
+    fn with_gap(self, gap: Section) -> Tally
         ensures { result ≡ with_gap self gap }
     {
         Tally {
-            row: self.row.followed_by(gap),
+            spacing: self.spacing.followed_by(gap),
             ..self
         }
     }
 
-    // One more thing. It begins a fragment where the row of gaps before it has no upper end.
-    fn with_thing(self, thing: Stretch) -> Tally
+    // One more thing. It begins a fragment where the spacing before it has no upper end.
+    fn with_thing(self, thing: Section) -> Tally
         requires { self.ended < 255 }
         ensures { result ≡ with_thing self thing }
     {
-        if self.row.endless {
+        if self.spacing.endless {
             Tally {
                 body: thing,
                 ..self.close()
             }
         } else {
             Tally {
-                body: self.body.followed_by(self.row).followed_by(thing),
-                row: Stretch::EMPTY,
+                body: self.body.followed_by(self.spacing).followed_by(thing),
+                spacing: Section::EMPTY,
                 ..self
             }
         }
@@ -187,7 +187,7 @@ impl Tally {
             ),
             ..self
         };
-        let item = Stretch::of(pattern, part);
+        let item = Section::of(pattern, part);
         match part.part {
             Part::Gap { .. } => judged.with_gap(item),
             _ => judged.with_thing(item),

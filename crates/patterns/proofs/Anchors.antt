@@ -394,41 +394,41 @@ thing_bounded (range d inside low high) n = refl
 thing_bounded (other run) n = refl
 thing_bounded (gap m n) e = absurd (true≢false e)
 
--- a row without an endless gap has none
-row_bounded : (row : List Placed) → some endless row ≡ false → All Bounded (bodies row)
-row_bounded [] n = tt
-row_bounded (q ∷ qs) n = let (here, later) = or_parts (endless q.item) (some endless qs) n in (here, row_bounded qs later)
+-- a spacing without an endless gap has none
+spacing_bounded : (spacing : List Placed) → some endless spacing ≡ false → All Bounded (bodies spacing)
+spacing_bounded [] n = tt
+spacing_bounded (q ∷ qs) n = let (here, later) = or_parts (endless q.item) (some endless qs) n in (here, spacing_bounded qs later)
 
 -- no fragment has an endless gap, since the items are cut there
-cut_bounded : (qs : List Placed) (break : ℕ) (body row : List Placed)
-    → All Bounded (bodies body) → All (λ f. All Bounded (bodies f.body)) (cut_from break body row qs)
-cut_bounded [] break body row b = (b, tt)
-cut_bounded (q ∷ qs) break body row b =
+cut_bounded : (qs : List Placed) (break : ℕ) (body spacing : List Placed)
+    → All Bounded (bodies body) → All (λ f. All Bounded (bodies f.body)) (cut_from break body spacing qs)
+cut_bounded [] break body spacing b = (b, tt)
+cut_bounded (q ∷ qs) break body spacing b =
     elim (cases_Bool (is_gap q.item)) [
-      | inl y ↦ rw (cut_gap break body row q qs y) (cut_bounded qs break body (row ++ q ∷ []) b)
+      | inl y ↦ rw (cut_gap break body spacing q qs y) (cut_bounded qs break body (spacing ++ q ∷ []) b)
       | inr n ↦
           let thing = thing_bounded q.item n in
-          elim (cases_Bool (some endless row)) [
-            | inl y ↦ rw (cut_thing break body row q qs n y) (b, cut_bounded qs (sum least row) (q ∷ []) [] (thing, tt))
+          elim (cases_Bool (some endless spacing)) [
+            | inl y ↦ rw (cut_thing break body spacing q qs n y) (b, cut_bounded qs (sum least spacing) (q ∷ []) [] (thing, tt))
             | inr m ↦
-                let joined : All Bounded (bodies (body ++ (row ++ q ∷ []))) =
-                simp bodies_append (All-append Bounded (bodies body) (bodies row ++ (q.item ∷ [])) b
-                (All-append Bounded (bodies row) (q.item ∷ []) (row_bounded row m) (thing, tt))) in
-                rw (cut_held break body row q qs n m) (cut_bounded qs break (body ++ (row ++ q ∷ [])) [] joined)
+                let joined : All Bounded (bodies (body ++ (spacing ++ q ∷ []))) =
+                simp bodies_append (All-append Bounded (bodies body) (bodies spacing ++ (q.item ∷ [])) b
+                (All-append Bounded (bodies spacing) (q.item ∷ []) (spacing_bounded spacing m) (thing, tt))) in
+                rw (cut_held break body spacing q qs n m) (cut_bounded qs break (body ++ (spacing ++ q ∷ [])) [] joined)
           ]
     ]
 
 -- the break of the first fragment does not change the bodies
-pub any_break : (P : List Placed → Type 0) (qs : List Placed) (a b : ℕ) (body row : List Placed)
-    → All (λ f. P f.body) (cut_from a body row qs) → All (λ f. P f.body) (cut_from b body row qs)
-any_break P [] a b body row = λ h. h
-any_break P (q ∷ qs) a b body row =
+pub any_break : (P : List Placed → Type 0) (qs : List Placed) (a b : ℕ) (body spacing : List Placed)
+    → All (λ f. P f.body) (cut_from a body spacing qs) → All (λ f. P f.body) (cut_from b body spacing qs)
+any_break P [] a b body spacing = λ h. h
+any_break P (q ∷ qs) a b body spacing =
     elim (cases_Bool (is_gap q.item)) [
-      | inl y ↦ rw (cut_gap a body row q qs y, cut_gap b body row q qs y) (any_break P qs a b body (row ++ q ∷ []))
+      | inl y ↦ rw (cut_gap a body spacing q qs y, cut_gap b body spacing q qs y) (any_break P qs a b body (spacing ++ q ∷ []))
       | inr n ↦
-          elim (cases_Bool (some endless row)) [
-            | inl y ↦ rw (cut_thing a body row q qs n y, cut_thing b body row q qs n y) (λ h. (h.0, h.1))
-            | inr m ↦ rw (cut_held a body row q qs n m, cut_held b body row q qs n m) (any_break P qs a b (body ++ (row ++ q ∷ [])) [])
+          elim (cases_Bool (some endless spacing)) [
+            | inl y ↦ rw (cut_thing a body spacing q qs n y, cut_thing b body spacing q qs n y) (λ h. (h.0, h.1))
+            | inr m ↦ rw (cut_held a body spacing q qs n m, cut_held b body spacing q qs n m) (any_break P qs a b (body ++ (spacing ++ q ∷ [])) [])
           ]
     ]
 

@@ -259,13 +259,13 @@ Gap q = is_gap q.item ≡ true
 abbrev Tight : List Placed → Type 0
 Tight qs = Framed (λ mid. some endless mid ≡ false) qs
 
--- what stands behind a fragment's items: a row of gaps of which one is endless, the items of the next, and so on
+-- what stands behind a fragment's items: a spacing of which one is endless, the items of the next, and so on
 abbrev Behind : List Placed → List (List Placed) → Type 0
 Behind more [] = more ≡ []
 Behind more (b ∷ bs) =
-    (row : List Placed) × (rest : List Placed) × (more ≡ row ++ (b ++ rest)) × All Gap row × (some endless row ≡ true) × Tight b × Behind rest bs
+    (spacing : List Placed) × (rest : List Placed) × (more ≡ spacing ++ (b ++ rest)) × All Gap spacing × (some endless spacing ≡ true) × Tight b × Behind rest bs
 
--- the items are those of some fragments, with such rows between them
+-- the items are those of some fragments, with such spacings between them
 abbrev Parts : List Placed → List (List Placed) → Type 0
 Parts qs [] = ⊥
 Parts qs (b ∷ bs) = (more : List Placed) × (qs ≡ b ++ more) × Tight b × Behind more bs
@@ -281,53 +281,53 @@ some_append p (q ∷ ps) qs m n =
     let (a, b) = or_parts (p q.item) (some p ps) m in
     or_from (p q.item) (some p (ps ++ qs)) a (some_append p ps qs b n)
 
--- a fragment grows by a row without an endless gap and a thing
-tight_push : (b row : List Placed) (q : Placed) → Tight b → some endless row ≡ false → Thing q → Tight (b ++ (row ++ q ∷ []))
-tight_push b row q (inl (t, n, e)) m k = inr (t, row, q, n, m, k, ap (λ l. l ++ (row ++ q ∷ [])) e)
-tight_push b row q (inr (f, mid, t, n, p, o, e)) m k =
+-- a fragment grows by a spacing without an endless gap and a thing
+tight_push : (b spacing : List Placed) (q : Placed) → Tight b → some endless spacing ≡ false → Thing q → Tight (b ++ (spacing ++ q ∷ []))
+tight_push b spacing q (inl (t, n, e)) m k = inr (t, spacing, q, n, m, k, ap (λ l. l ++ (spacing ++ q ∷ [])) e)
+tight_push b spacing q (inr (f, mid, t, n, p, o, e)) m k =
     inr (
       f,
-      mid ++ t ∷ row,
+      mid ++ t ∷ spacing,
       q,
       n,
-      some_append endless mid (t ∷ row) p (or_from (endless t.item) (some endless row) (thing_bounded t.item o) m),
+      some_append endless mid (t ∷ spacing) p (or_from (endless t.item) (some endless spacing) (thing_bounded t.item o) m),
       k,
-      ap (λ l. l ++ (row ++ q ∷ [])) e ∙ ap (λ l. f ∷ l) (simp append_assoc),
+      ap (λ l. l ++ (spacing ++ q ∷ [])) e ∙ ap (λ l. f ∷ l) (simp append_assoc),
     )
 
 -- a fragment before others
-parts_front : (b row rest : List Placed) (bs : List (List Placed))
-    → Tight b → All Gap row → some endless row ≡ true → Parts rest bs → Parts (b ++ (row ++ rest)) (b ∷ bs)
-parts_front b row rest [] h gaps y p = absurd p
-parts_front b row rest (c ∷ cs) h gaps y (more, e, k, p) = (row ++ rest, refl, h, (row, more, ap (λ l. row ++ l) e, gaps, y, k, p))
+parts_front : (b spacing rest : List Placed) (bs : List (List Placed))
+    → Tight b → All Gap spacing → some endless spacing ≡ true → Parts rest bs → Parts (b ++ (spacing ++ rest)) (b ∷ bs)
+parts_front b spacing rest [] h gaps y p = absurd p
+parts_front b spacing rest (c ∷ cs) h gaps y (more, e, k, p) = (spacing ++ rest, refl, h, (spacing, more, ap (λ l. spacing ++ l) e, gaps, y, k, p))
 
 -- the fragments that the cut makes are such parts
-cut_parts : (qs : List Placed) (p : Position) (break : ℕ) (body row : List Placed)
-    → Ordered p qs → (may_end p ≡ true → row ≡ []) → Tight body → All Gap row
-    → Parts (body ++ (row ++ qs)) (pieces (cut_from break body row qs))
-cut_parts [] p break body row may none h gaps = ([], ap (λ r. body ++ (r ++ [])) (none may), h, refl)
-cut_parts (q ∷ qs) p break body row (fits, order) none h gaps =
+cut_parts : (qs : List Placed) (p : Position) (break : ℕ) (body spacing : List Placed)
+    → Ordered p qs → (may_end p ≡ true → spacing ≡ []) → Tight body → All Gap spacing
+    → Parts (body ++ (spacing ++ qs)) (pieces (cut_from break body spacing qs))
+cut_parts [] p break body spacing may none h gaps = ([], ap (λ r. body ++ (r ++ [])) (none may), h, refl)
+cut_parts (q ∷ qs) p break body spacing (fits, order) none h gaps =
     elim (cases_Bool (is_gap q.item)) [
       | inl y ↦
           subst
-          (λ l. Parts (body ++ l) (pieces (cut_from break body row (q ∷ qs))))
-          (append_assoc row (q ∷ []) qs)
-          (rw (cut_gap break body row q qs y) (cut_parts qs (behind q.item) break body (row ++ q ∷ []) order
-          (λ e. absurd (both_ways _ (last_thing q.item e) y)) h (All-push Gap row q gaps y)))
+          (λ l. Parts (body ++ l) (pieces (cut_from break body spacing (q ∷ qs))))
+          (append_assoc spacing (q ∷ []) qs)
+          (rw (cut_gap break body spacing q qs y) (cut_parts qs (behind q.item) break body (spacing ++ q ∷ []) order
+          (λ e. absurd (both_ways _ (last_thing q.item e) y)) h (All-push Gap spacing q gaps y)))
       | inr n ↦
-          elim (cases_Bool (some endless row)) [
+          elim (cases_Bool (some endless spacing)) [
             | inl y ↦
                 rw
-                (cut_thing break body row q qs n y)
-                (parts_front body row (q ∷ qs) (pieces (cut_from (sum least row) (q ∷ []) [] qs)) h gaps y
-                (cut_parts qs (behind q.item) (sum least row) (q ∷ []) [] order (λ _. refl) (inl (q, n, refl)) tt))
+                (cut_thing break body spacing q qs n y)
+                (parts_front body spacing (q ∷ qs) (pieces (cut_from (sum least spacing) (q ∷ []) [] qs)) h gaps y
+                (cut_parts qs (behind q.item) (sum least spacing) (q ∷ []) [] order (λ _. refl) (inl (q, n, refl)) tt))
             | inr m ↦
-                let whole : (body ++ (row ++ q ∷ [])) ++ qs ≡ body ++ (row ++ q ∷ qs) = simp append_assoc in
+                let whole : (body ++ (spacing ++ q ∷ [])) ++ qs ≡ body ++ (spacing ++ q ∷ qs) = simp append_assoc in
                 subst
-                (λ l. Parts l (pieces (cut_from break body row (q ∷ qs))))
+                (λ l. Parts l (pieces (cut_from break body spacing (q ∷ qs))))
                 whole
-                (rw (cut_held break body row q qs n m) (cut_parts qs (behind q.item) break (body ++ (row ++ q ∷ [])) [] order
-                (λ _. refl) (tight_push body row q h m n) tt))
+                (rw (cut_held break body spacing q qs n m) (cut_parts qs (behind q.item) break (body ++ (spacing ++ q ∷ [])) [] order
+                (λ _. refl) (tight_push body spacing q h m n) tt))
           ]
     ]
 
@@ -341,32 +341,32 @@ fragments_parts (q ∷ qs) lo (a, order) =
 -- No other parts are.
 
 -- items without an endless gap, up to a thing, join the fragment
-cut_joins : (mid : List Placed) (t : Placed) (more : List Placed) (break : ℕ) (body row : List Placed)
-    → some endless mid ≡ false → some endless row ≡ false → Thing t
-    → cut_from break body row (mid ++ t ∷ more) ≡ cut_from break (body ++ (row ++ (mid ++ t ∷ []))) [] more
-cut_joins [] t more break body row m r n = cut_held break body row t more n r
-cut_joins (q ∷ mid) t more break body row m r n =
+cut_joins : (mid : List Placed) (t : Placed) (more : List Placed) (break : ℕ) (body spacing : List Placed)
+    → some endless mid ≡ false → some endless spacing ≡ false → Thing t
+    → cut_from break body spacing (mid ++ t ∷ more) ≡ cut_from break (body ++ (spacing ++ (mid ++ t ∷ []))) [] more
+cut_joins [] t more break body spacing m r n = cut_held break body spacing t more n r
+cut_joins (q ∷ mid) t more break body spacing m r n =
     let (here, later) = or_parts (endless q.item) (some endless mid) m in
     elim (cases_Bool (is_gap q.item)) [
       | inl y ↦
-          cut_gap break body row q (mid ++ t ∷ more) y
-          ∙ cut_joins mid t more break body (row ++ q ∷ []) later (some_append endless row (q ∷ []) r (or_from (endless q.item) false here refl)) n
-          ∙ ap (λ l. cut_from break (body ++ l) [] more) (append_assoc row (q ∷ []) (mid ++ t ∷ []))
+          cut_gap break body spacing q (mid ++ t ∷ more) y
+          ∙ cut_joins mid t more break body (spacing ++ q ∷ []) later (some_append endless spacing (q ∷ []) r (or_from (endless q.item) false here refl)) n
+          ∙ ap (λ l. cut_from break (body ++ l) [] more) (append_assoc spacing (q ∷ []) (mid ++ t ∷ []))
       | inr k ↦
-          let whole : (body ++ (row ++ q ∷ [])) ++ (mid ++ t ∷ []) ≡ body ++ (row ++ (q ∷ (mid ++ t ∷ []))) = simp append_assoc in
-          cut_held break body row q (mid ++ t ∷ more) k r
-          ∙ cut_joins mid t more break (body ++ (row ++ q ∷ [])) [] later refl n
+          let whole : (body ++ (spacing ++ q ∷ [])) ++ (mid ++ t ∷ []) ≡ body ++ (spacing ++ (q ∷ (mid ++ t ∷ []))) = simp append_assoc in
+          cut_held break body spacing q (mid ++ t ∷ more) k r
+          ∙ cut_joins mid t more break (body ++ (spacing ++ q ∷ [])) [] later refl n
           ∙ ap (λ l. cut_from break l [] more) whole
     ]
 
--- gaps join the row
-cut_row : (gaps more : List Placed) (break : ℕ) (body row : List Placed)
-    → All Gap gaps → cut_from break body row (gaps ++ more) ≡ cut_from break body (row ++ gaps) more
-cut_row [] more break body row h = ap (λ l. cut_from break body l more) (sym (append-nil row))
-cut_row (q ∷ gaps) more break body row (y, h) =
-    cut_gap break body row q (gaps ++ more) y
-    ∙ cut_row gaps more break body (row ++ q ∷ []) h
-    ∙ ap (λ l. cut_from break body l more) (append_assoc row (q ∷ []) gaps)
+-- gaps join the spacing
+cut_row : (gaps more : List Placed) (break : ℕ) (body spacing : List Placed)
+    → All Gap gaps → cut_from break body spacing (gaps ++ more) ≡ cut_from break body (spacing ++ gaps) more
+cut_row [] more break body spacing h = ap (λ l. cut_from break body l more) (sym (append-nil spacing))
+cut_row (q ∷ gaps) more break body spacing (y, h) =
+    cut_gap break body spacing q (gaps ++ more) y
+    ∙ cut_row gaps more break body (spacing ++ q ∷ []) h
+    ∙ ap (λ l. cut_from break body l more) (append_assoc spacing (q ∷ []) gaps)
 
 -- a fragment's first item, and the rest, which joins it
 tight_joins : (b : List Placed) → Tight b
@@ -392,22 +392,22 @@ cut_first b more break h =
     (cut_held break [] [] q (rest ++ more) n refl ∙ joins break more)
 
 -- a later one
-cut_next : (b more : List Placed) (break : ℕ) (body row : List Placed) → Tight b → some endless row ≡ true
-    → cut_from break body row (b ++ more) ≡ record { break = break; body = body } ∷ cut_from (sum least row) b [] more
-cut_next b more break body row h y =
+cut_next : (b more : List Placed) (break : ℕ) (body spacing : List Placed) → Tight b → some endless spacing ≡ true
+    → cut_from break body spacing (b ++ more) ≡ record { break = break; body = body } ∷ cut_from (sum least spacing) b [] more
+cut_next b more break body spacing h y =
     let (q, rest, n, e, joins) = tight_joins b h in
     subst
-    (λ l. cut_from break body row (l ++ more) ≡ record { break = break; body = body } ∷ cut_from (sum least row) l [] more)
+    (λ l. cut_from break body spacing (l ++ more) ≡ record { break = break; body = body } ∷ cut_from (sum least spacing) l [] more)
     (sym e)
-    (cut_thing break body row q (rest ++ more) n y ∙ ap (λ fs. record { break = break; body = body } ∷ fs) (joins (sum least row) more))
+    (cut_thing break body spacing q (rest ++ more) n y ∙ ap (λ fs. record { break = break; body = body } ∷ fs) (joins (sum least spacing) more))
 
 -- what stands behind a fragment is cut into its parts
 cut_pieces : (bs : List (List Placed)) (b more : List Placed) (break : ℕ) → Behind more bs → pieces (cut_from break b [] more) ≡ b ∷ bs
 cut_pieces [] b more break e = ap (λ l. pieces (cut_from break b [] l)) e
-cut_pieces (c ∷ cs) b more break (row, rest, e, gaps, y, h, p) =
+cut_pieces (c ∷ cs) b more break (spacing, rest, e, gaps, y, h, p) =
     ap (λ l. pieces (cut_from break b [] l)) e
-    ∙ ap pieces (cut_row row (c ++ rest) break b [] gaps ∙ cut_next c rest break b row h y)
-    ∙ ap (λ l. b ∷ l) (cut_pieces cs c rest (sum least row) p)
+    ∙ ap pieces (cut_row spacing (c ++ rest) break b [] gaps ∙ cut_next c rest break b spacing h y)
+    ∙ ap (λ l. b ∷ l) (cut_pieces cs c rest (sum least spacing) p)
 
 -- the parts of some items are the items of their fragments
 parts_fragments : (qs : List Placed) (bs : List (List Placed)) (lo : ℕ) → Parts qs bs → pieces (fragments lo qs) ≡ bs
@@ -423,25 +423,25 @@ mirrored_pieces [] = []
 mirrored_pieces (b ∷ bs) = mirrored_pieces bs ++ (mirrored_placed b ∷ [])
 
 -- one more fragment behind others
-parts_push : (qs : List Placed) (bs : List (List Placed)) (row c : List Placed)
-    → Parts qs bs → All Gap row → some endless row ≡ true → Tight c → Parts (qs ++ (row ++ c)) (bs ++ c ∷ [])
-parts_push qs [] row c p gaps y h = absurd p
-parts_push qs (b ∷ bs) row c (more, e, k, p) gaps y h =
-    (more ++ (row ++ c), ap (λ l. l ++ (row ++ c)) e ∙ append_assoc b more (row ++ c), k, further bs more p)
+parts_push : (qs : List Placed) (bs : List (List Placed)) (spacing c : List Placed)
+    → Parts qs bs → All Gap spacing → some endless spacing ≡ true → Tight c → Parts (qs ++ (spacing ++ c)) (bs ++ c ∷ [])
+parts_push qs [] spacing c p gaps y h = absurd p
+parts_push qs (b ∷ bs) spacing c (more, e, k, p) gaps y h =
+    (more ++ (spacing ++ c), ap (λ l. l ++ (spacing ++ c)) e ∙ append_assoc b more (spacing ++ c), k, further bs more p)
   where
-    further : (bs : List (List Placed)) (more : List Placed) → Behind more bs → Behind (more ++ (row ++ c)) (bs ++ c ∷ [])
-    further [] more e = (row, [], ap (λ l. l ++ (row ++ c)) e ∙ ap (λ l. row ++ l) (sym (append-nil c)), gaps, y, h, refl)
+    further : (bs : List (List Placed)) (more : List Placed) → Behind more bs → Behind (more ++ (spacing ++ c)) (bs ++ c ∷ [])
+    further [] more e = (spacing, [], ap (λ l. l ++ (spacing ++ c)) e ∙ ap (λ l. spacing ++ l) (sym (append-nil c)), gaps, y, h, refl)
     further (d ∷ ds) more (between, rest, e, g, z, k, p) =
-        let whole : (between ++ (d ++ rest)) ++ (row ++ c) ≡ between ++ (d ++ (rest ++ (row ++ c))) = simp append_assoc in
-        (between, rest ++ (row ++ c), ap (λ l. l ++ (row ++ c)) e ∙ whole, g, z, k, further ds rest p)
+        let whole : (between ++ (d ++ rest)) ++ (spacing ++ c) ≡ between ++ (d ++ (rest ++ (spacing ++ c))) = simp append_assoc in
+        (between, rest ++ (spacing ++ c), ap (λ l. l ++ (spacing ++ c)) e ∙ whole, g, z, k, further ds rest p)
 
 -- a fragment's items, mirrored, are a fragment's
 tight_mirrored : (b : List Placed) → Tight b → Tight (mirrored_placed b)
 tight_mirrored b h = framed_mirrored (λ mid. some endless mid ≡ false) (λ mid n. some_mirrored endless endless_mirrored mid ∙ n) b h
 
--- a row of gaps, mirrored, is one
-gaps_mirrored : (row : List Placed) → All Gap row → All Gap (mirrored_placed row)
-gaps_mirrored row gaps = all_mirrored Gap row (All-weaker Gap (λ q. Gap (mirror q)) (λ q y. is_gap_mirrored q.item ∙ y) row gaps)
+-- a spacing, mirrored, is one
+gaps_mirrored : (spacing : List Placed) → All Gap spacing → All Gap (mirrored_placed spacing)
+gaps_mirrored spacing gaps = all_mirrored Gap spacing (All-weaker Gap (λ q. Gap (mirror q)) (λ q y. is_gap_mirrored q.item ∙ y) spacing gaps)
 
 -- the parts of the mirrored items are the mirrored parts
 parts_mirrored : (bs : List (List Placed)) (qs : List Placed) → Parts qs bs → Parts (mirrored_placed qs) (mirrored_pieces bs)
@@ -449,18 +449,18 @@ parts_mirrored [] qs p = absurd p
 parts_mirrored (b ∷ []) qs (more, e, h, p) =
     let same : qs ≡ b = e ∙ ap (λ l. b ++ l) p ∙ append-nil b in
     ([], ap mirrored_placed same ∙ sym (append-nil (mirrored_placed b)), tight_mirrored b h, refl)
-parts_mirrored (b ∷ c ∷ cs) qs (more, e, h, (row, rest, d, gaps, y, k, p)) =
-    let whole : qs ≡ b ++ (row ++ (c ++ rest)) = e ∙ ap (λ l. b ++ l) d in
-    let turned_round : mirrored_placed (b ++ (row ++ (c ++ rest))) ≡ mirrored_placed (c ++ rest) ++ (mirrored_placed row ++ mirrored_placed b) =
-    mirrored_placed_append b (row ++ (c ++ rest))
-    ∙ ap (λ l. l ++ mirrored_placed b) (mirrored_placed_append row (c ++ rest))
-    ∙ append_assoc (mirrored_placed (c ++ rest)) (mirrored_placed row) (mirrored_placed b) in
+parts_mirrored (b ∷ c ∷ cs) qs (more, e, h, (spacing, rest, d, gaps, y, k, p)) =
+    let whole : qs ≡ b ++ (spacing ++ (c ++ rest)) = e ∙ ap (λ l. b ++ l) d in
+    let turned_round : mirrored_placed (b ++ (spacing ++ (c ++ rest))) ≡ mirrored_placed (c ++ rest) ++ (mirrored_placed spacing ++ mirrored_placed b) =
+    mirrored_placed_append b (spacing ++ (c ++ rest))
+    ∙ ap (λ l. l ++ mirrored_placed b) (mirrored_placed_append spacing (c ++ rest))
+    ∙ append_assoc (mirrored_placed (c ++ rest)) (mirrored_placed spacing) (mirrored_placed b) in
     subst
     (λ l. Parts l (mirrored_pieces (b ∷ c ∷ cs)))
     (sym (ap mirrored_placed whole ∙ turned_round))
-    (parts_push (mirrored_placed (c ++ rest)) (mirrored_pieces (c ∷ cs)) (mirrored_placed row) (mirrored_placed b)
+    (parts_push (mirrored_placed (c ++ rest)) (mirrored_pieces (c ∷ cs)) (mirrored_placed spacing) (mirrored_placed b)
     (parts_mirrored (c ∷ cs) (c ++ rest) (rest, refl, k, p))
-    (gaps_mirrored row gaps) (some_mirrored endless endless_mirrored row ∙ y) (tight_mirrored b h))
+    (gaps_mirrored spacing gaps) (some_mirrored endless endless_mirrored spacing ∙ y) (tight_mirrored b h))
 
 -- so the fragments of the mirrored items are the mirrored fragments, from the last to the first
 pub fragments_mirrored : (qs : List Placed) (lo lo' : ℕ) → Ordered start qs

@@ -138,7 +138,7 @@ module _ (items : List Item) (from : ℕ) (until : Option ℕ) (xs : List ℕ) w
   pub least_end_is : (r : Option ℕ) → LeastEnd items from until xs r → r ≡ least_end items from until xs
   least_end_is r h = least_end_unique r (least_end items from until xs) h least_end_exactly
 
--- Rows of gaps.
+-- Spacings.
 
 -- a gap, and not a wrong one
 abbrev pub Plain : Placed → Type 0
@@ -177,55 +177,55 @@ gap_endless = of_gap _ go
 gap_goes_on : (i : Item) → is_gap i ≡ true → may_end (behind i) ≡ false
 gap_goes_on = of_gap _ (λ l n. refl)
 
--- a row of gaps takes the sum of their least lengths or more
-row_least : (row : List Placed) (xs : List ℕ) → All Plain row → Cut (bodies row) xs → sum least row ≤ length xs
-row_least [] xs gaps c = omega arith
-row_least (q ∷ qs) xs ((y, ok), gaps) (front, rest, e, m, c) =
-    omega (arith, ap length e ∙ length-append front rest, gap_least q.item y front m, row_least qs rest gaps c)
+-- a spacing takes the sum of their least lengths or more
+spacing_least : (spacing : List Placed) (xs : List ℕ) → All Plain spacing → Cut (bodies spacing) xs → sum least spacing ≤ length xs
+spacing_least [] xs gaps c = omega arith
+spacing_least (q ∷ qs) xs ((y, ok), gaps) (front, rest, e, m, c) =
+    omega (arith, ap length e ∙ length-append front rest, gap_least q.item y front m, spacing_least qs rest gaps c)
 
 -- an item in front of a cut
 cut_behind : (i : Item) (is : List Item) (xs : List ℕ) (k : ℕ) → Matches i (take k xs) → Cut is (drop k xs) → Cut (i ∷ is) xs
 cut_behind i is xs k m c = (take k xs, drop k xs, sym (take-append-drop k xs), m, c)
 
 -- if none is wrong, it takes just that sum
-row_exact : (row : List Placed) (xs : List ℕ) → All Plain row → length xs ≡ sum least row → Cut (bodies row) xs
-row_exact [] xs gaps e = nil_from_length xs e
-row_exact (q ∷ qs) xs ((y, ok), gaps) e =
+spacing_exact : (spacing : List Placed) (xs : List ℕ) → All Plain spacing → length xs ≡ sum least spacing → Cut (bodies spacing) xs
+spacing_exact [] xs gaps e = nil_from_length xs e
+spacing_exact (q ∷ qs) xs ((y, ok), gaps) e =
     let k = least q.item in
     let size : length (take k xs) ≡ k = simp length-take (omega arith) in
     let rest : length (drop k xs) ≡ sum least qs = simp length-drop (omega arith) in
-    cut_behind q.item (bodies qs) xs k (gap_exact q.item y (take k xs) ok size) (row_exact qs (drop k xs) gaps rest)
+    cut_behind q.item (bodies qs) xs k (gap_exact q.item y (take k xs) ok size) (spacing_exact qs (drop k xs) gaps rest)
 
 -- and if one has no upper end, whatever is not shorter
-row_endless : (row : List Placed) (xs : List ℕ) → All Plain row → some endless row ≡ true → sum least row ≤ length xs → Cut (bodies row) xs
-row_endless [] xs gaps y h = absurd (false≢true y)
-row_endless (q ∷ qs) xs ((g, ok), gaps) y h =
+spacing_endless : (spacing : List Placed) (xs : List ℕ) → All Plain spacing → some endless spacing ≡ true → sum least spacing ≤ length xs → Cut (bodies spacing) xs
+spacing_endless [] xs gaps y h = absurd (false≢true y)
+spacing_endless (q ∷ qs) xs ((g, ok), gaps) y h =
     elim (or_cases (endless q.item) (some endless qs) y) [
       | inl here ↦
           let k = length xs - sum least qs in
           let size : least q.item ≤ length (take k xs) = simp length-take (omega arith) in
           let rest : length (drop k xs) ≡ sum least qs = simp length-drop (omega arith) in
-          cut_behind q.item (bodies qs) xs k (gap_endless q.item g (take k xs) here size) (row_exact qs (drop k xs) gaps rest)
+          cut_behind q.item (bodies qs) xs k (gap_endless q.item g (take k xs) here size) (spacing_exact qs (drop k xs) gaps rest)
       | inr later ↦
           let k = least q.item in
           let size : length (take k xs) ≡ k = simp length-take (omega arith) in
           let rest : sum least qs ≤ length (drop k xs) = simp length-drop (omega arith) in
-          cut_behind q.item (bodies qs) xs k (gap_exact q.item g (take k xs) ok size) (row_endless qs (drop k xs) gaps later rest)
+          cut_behind q.item (bodies qs) xs k (gap_exact q.item g (take k xs) ok size) (spacing_endless qs (drop k xs) gaps later rest)
     ]
 
--- so between two places that far apart the row spans what stands there
-pub row_spans : (row : List Placed) (xs : List ℕ) (s e : ℕ)
-    → All Plain row → some endless row ≡ true → s + sum least row ≤ e → e ≤ length xs → Spans (bodies row) xs s e
-row_spans row xs s e gaps y h inside =
+-- so between two places that far apart the spacing spans what stands there
+pub spacing_spans : (spacing : List Placed) (xs : List ℕ) (s e : ℕ)
+    → All Plain spacing → some endless spacing ≡ true → s + sum least spacing ≤ e → e ≤ length xs → Spans (bodies spacing) xs s e
+spacing_spans spacing xs s e gaps y h inside =
     record {
       ordered = omega arith;
       inside = inside;
-      cut = row_endless row (stretch xs s e) gaps y (omega (arith, length_stretch xs s e inside));
+      cut = spacing_endless spacing (stretch xs s e) gaps y (omega (arith, length_stretch xs s e inside));
     }
 
 -- and only between such places
-pub row_apart : (row : List Placed) (xs : List ℕ) (s e : ℕ) → All Plain row → Spans (bodies row) xs s e → s + sum least row ≤ e
-row_apart row xs s e gaps h = omega (arith, h.ordered, length_stretch xs s e h.inside, row_least row (stretch xs s e) gaps h.cut)
+pub spacing_apart : (spacing : List Placed) (xs : List ℕ) (s e : ℕ) → All Plain spacing → Spans (bodies spacing) xs s e → s + sum least spacing ≤ e
+spacing_apart spacing xs s e gaps h = omega (arith, h.ordered, length_stretch xs s e h.inside, spacing_least spacing (stretch xs s e) gaps h.cut)
 
 -- Fragments, one behind the other.
 
@@ -280,19 +280,19 @@ pub bodies_append : (ps qs : List Placed) → bodies (ps ++ qs) ≡ bodies ps ++
 bodies_append [] qs = refl
 bodies_append (p ∷ ps) qs = ap (λ l. p.item ∷ l) (bodies_append ps qs)
 
-module _ (break : ℕ) (body row : List Placed) (q : Placed) (qs : List Placed) where
-  -- a gap joins the row
-  pub cut_gap : is_gap q.item ≡ true → cut_from break body row (q ∷ qs) ≡ cut_from break body (row ++ q ∷ []) qs
+module _ (break : ℕ) (body spacing : List Placed) (q : Placed) (qs : List Placed) where
+  -- a gap joins the spacing
+  pub cut_gap : is_gap q.item ≡ true → cut_from break body spacing (q ∷ qs) ≡ cut_from break body (spacing ++ q ∷ []) qs
   cut_gap y = rw (y, cut_from)
 
-  -- a thing behind an endless row begins a fragment
-  pub cut_thing : is_gap q.item ≡ false → some endless row ≡ true
-      → cut_from break body row (q ∷ qs) ≡ record { break = break; body = body } ∷ cut_from (sum least row) (q ∷ []) [] qs
+  -- a thing behind an endless spacing begins a fragment
+  pub cut_thing : is_gap q.item ≡ false → some endless spacing ≡ true
+      → cut_from break body spacing (q ∷ qs) ≡ record { break = break; body = body } ∷ cut_from (sum least spacing) (q ∷ []) [] qs
   cut_thing n y = rw (n, y, cut_from)
 
-  -- a thing behind another row joins the fragment, with the row
-  pub cut_held : is_gap q.item ≡ false → some endless row ≡ false
-      → cut_from break body row (q ∷ qs) ≡ cut_from break (body ++ (row ++ q ∷ [])) [] qs
+  -- a thing behind another spacing joins the fragment, with the spacing
+  pub cut_held : is_gap q.item ≡ false → some endless spacing ≡ false
+      → cut_from break body spacing (q ∷ qs) ≡ cut_from break (body ++ (spacing ++ q ∷ [])) [] qs
   cut_held n m = rw (n, m, cut_from)
 
 -- an item that is not wrong
@@ -300,64 +300,64 @@ abbrev pub Right : Placed → Type 0
 Right q = wrong q.item ≡ false
 
 -- a placement of three parts: the second and the third span what stands behind the first
-ends_joined : (ps row qs : List Placed) (from : ℕ) (until : Option ℕ) (xs : List ℕ) (m e : ℕ)
-    → Ends (bodies ps) from until xs m → All Plain row → some endless row ≡ true → Ends (bodies qs) (m + sum least row) None xs e
-    → Ends (bodies (ps ++ (row ++ qs))) from until xs e
-ends_joined ps row qs from until xs m e first gaps y last =
-    let between = row_spans row xs m last.begins gaps y last.late (omega (arith, last.spans.ordered, last.spans.inside)) in
-    let both = spans_joined (bodies row) (bodies qs) xs m last.begins e between last.spans in
-    let all = spans_joined (bodies ps) (bodies row ++ bodies qs) xs first.begins m e first.spans both in
-    let items : bodies ps ++ (bodies row ++ bodies qs) ≡ bodies (ps ++ (row ++ qs)) = simp bodies_append in
+ends_joined : (ps spacing qs : List Placed) (from : ℕ) (until : Option ℕ) (xs : List ℕ) (m e : ℕ)
+    → Ends (bodies ps) from until xs m → All Plain spacing → some endless spacing ≡ true → Ends (bodies qs) (m + sum least spacing) None xs e
+    → Ends (bodies (ps ++ (spacing ++ qs))) from until xs e
+ends_joined ps spacing qs from until xs m e first gaps y last =
+    let between = spacing_spans spacing xs m last.begins gaps y last.late (omega (arith, last.spans.ordered, last.spans.inside)) in
+    let both = spans_joined (bodies spacing) (bodies qs) xs m last.begins e between last.spans in
+    let all = spans_joined (bodies ps) (bodies spacing ++ bodies qs) xs first.begins m e first.spans both in
+    let items : bodies ps ++ (bodies spacing ++ bodies qs) ≡ bodies (ps ++ (spacing ++ qs)) = simp bodies_append in
     record { begins = first.begins; late = first.late; early = first.early; spans = subst (λ l. Spans l xs first.begins e) items all }
 
 -- and back
-ends_parted : (ps row qs : List Placed) (from : ℕ) (until : Option ℕ) (xs : List ℕ) (e : ℕ)
-    → All Plain row → Ends (bodies (ps ++ (row ++ qs))) from until xs e
-    → (m : ℕ) × Ends (bodies ps) from until xs m × Ends (bodies qs) (m + sum least row) None xs e
-ends_parted ps row qs from until xs e gaps h =
-    let items : bodies (ps ++ (row ++ qs)) ≡ bodies ps ++ (bodies row ++ bodies qs) = simp bodies_append in
+ends_parted : (ps spacing qs : List Placed) (from : ℕ) (until : Option ℕ) (xs : List ℕ) (e : ℕ)
+    → All Plain spacing → Ends (bodies (ps ++ (spacing ++ qs))) from until xs e
+    → (m : ℕ) × Ends (bodies ps) from until xs m × Ends (bodies qs) (m + sum least spacing) None xs e
+ends_parted ps spacing qs from until xs e gaps h =
+    let items : bodies (ps ++ (spacing ++ qs)) ≡ bodies ps ++ (bodies spacing ++ bodies qs) = simp bodies_append in
     let all = subst (λ l. Spans l xs h.begins e) items h.spans in
-    let (m, first, more) = spans_parted (bodies ps) (bodies row ++ bodies qs) xs h.begins e all in
-    let (n, between, last) = spans_parted (bodies row) (bodies qs) xs m e more in
+    let (m, first, more) = spans_parted (bodies ps) (bodies spacing ++ bodies qs) xs h.begins e all in
+    let (n, between, last) = spans_parted (bodies spacing) (bodies qs) xs m e more in
     let front : Ends (bodies ps) from until xs m = record { begins = h.begins; late = h.late; early = h.early; spans = first } in
-    let back : Ends (bodies qs) (m + sum least row) None xs e = record { begins = n; late = row_apart row xs m n gaps between; early = tt; spans = last } in
+    let back : Ends (bodies qs) (m + sum least spacing) None xs e = record { begins = n; late = spacing_apart spacing xs m n gaps between; early = tt; spans = last } in
     (m, front, back)
 
 -- the fragments of some items lie one behind the other up to an end exactly when the items have a placement that ends there
-chain_exactly : (qs : List Placed) (p : Position) (break at : ℕ) (until : Option ℕ) (xs : List ℕ) (e : ℕ) (body row : List Placed)
-    → Ordered p qs → (may_end p ≡ true → row ≡ []) → All Plain row → All Right qs
-    → Chain (cut_from break body row qs) at until xs e ↔ Ends (bodies (body ++ (row ++ qs))) (at + break) until xs e
-chain_exactly [] p break at until xs e body row may none gaps right =
-    let same : body ≡ body ++ (row ++ []) = sym (append-nil body) ∙ ap (λ r. body ++ (r ++ [])) (sym (none may)) in
+chain_exactly : (qs : List Placed) (p : Position) (break at : ℕ) (until : Option ℕ) (xs : List ℕ) (e : ℕ) (body spacing : List Placed)
+    → Ordered p qs → (may_end p ≡ true → spacing ≡ []) → All Plain spacing → All Right qs
+    → Chain (cut_from break body spacing qs) at until xs e ↔ Ends (bodies (body ++ (spacing ++ qs))) (at + break) until xs e
+chain_exactly [] p break at until xs e body spacing may none gaps right =
+    let same : body ≡ body ++ (spacing ++ []) = sym (append-nil body) ∙ ap (λ r. body ++ (r ++ [])) (sym (none may)) in
     subst
-    (λ l. Chain (cut_from break body row []) at until xs e ↔ Ends (bodies l) (at + break) until xs e)
+    (λ l. Chain (cut_from break body spacing []) at until xs e ↔ Ends (bodies l) (at + break) until xs e)
     same
     (λ h. subst (Ends (bodies body) (at + break) until xs) h.2 h.1, λ h. (e, h, refl))
-chain_exactly (q ∷ qs) p break at until xs e body row (fits, order) none gaps (ok, right) =
+chain_exactly (q ∷ qs) p break at until xs e body spacing (fits, order) none gaps (ok, right) =
     elim (cases_Bool (is_gap q.item)) [
       | inl y ↦
           subst₂
           (λ fs l. Chain fs at until xs e ↔ Ends (bodies (body ++ l)) (at + break) until xs e)
-          (sym (cut_gap break body row q qs y))
-          (append_assoc row (q ∷ []) qs)
-          (chain_exactly qs (behind q.item) break at until xs e body (row ++ q ∷ []) order
-          (λ d. absurd (both_ways _ (gap_goes_on q.item y) d)) (All-push Plain row q gaps (y, ok)) right)
+          (sym (cut_gap break body spacing q qs y))
+          (append_assoc spacing (q ∷ []) qs)
+          (chain_exactly qs (behind q.item) break at until xs e body (spacing ++ q ∷ []) order
+          (λ d. absurd (both_ways _ (gap_goes_on q.item y) d)) (All-push Plain spacing q gaps (y, ok)) right)
       | inr n ↦
-          elim (cases_Bool (some endless row)) [
+          elim (cases_Bool (some endless spacing)) [
             | inl y ↦
-                let more = λ (m : ℕ). chain_exactly qs (behind q.item) (sum least row) m None xs e (q ∷ []) [] order (λ _. refl) tt right in
+                let more = λ (m : ℕ). chain_exactly qs (behind q.item) (sum least spacing) m None xs e (q ∷ []) [] order (λ _. refl) tt right in
                 subst
-                (λ fs. Chain fs at until xs e ↔ Ends (bodies (body ++ (row ++ q ∷ qs))) (at + break) until xs e)
-                (sym (cut_thing break body row q qs n y)) (
-                  λ h. ends_joined body row (q ∷ qs) (at + break) until xs h.0 e h.1 gaps y ((more h.0).0 h.2),
-                  λ h. let (m, first, last) = ends_parted body row (q ∷ qs) (at + break) until xs e gaps h in (m, first, (more m).1 last),
+                (λ fs. Chain fs at until xs e ↔ Ends (bodies (body ++ (spacing ++ q ∷ qs))) (at + break) until xs e)
+                (sym (cut_thing break body spacing q qs n y)) (
+                  λ h. ends_joined body spacing (q ∷ qs) (at + break) until xs h.0 e h.1 gaps y ((more h.0).0 h.2),
+                  λ h. let (m, first, last) = ends_parted body spacing (q ∷ qs) (at + break) until xs e gaps h in (m, first, (more m).1 last),
                 )
             | inr m ↦
                 subst₂
                 (λ fs l. Chain fs at until xs e ↔ Ends (bodies l) (at + break) until xs e)
-                (sym (cut_held break body row q qs n m))
+                (sym (cut_held break body spacing q qs n m))
                 (simp append_assoc)
-                (chain_exactly qs (behind q.item) break at until xs e (body ++ (row ++ q ∷ [])) [] order (λ _. refl) tt right)
+                (chain_exactly qs (behind q.item) break at until xs e (body ++ (spacing ++ q ∷ [])) [] order (λ _. refl) tt right)
           ]
     ]
 

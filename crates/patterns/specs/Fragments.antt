@@ -74,17 +74,17 @@ pub record Fragment : Type 0 where
   pub break : ℕ
   pub body : List Placed
 
--- The items are cut at every row of gaps that has one without upper end. What was read: the break and the body of the
--- fragment so far, and the row of gaps behind it.
+-- A spacing is a row of gaps with nothing else between them. The items are cut at every spacing that has a gap without
+-- upper end. What was read: the break and the body of the fragment so far, and the spacing behind it.
 abbrev pub cut_from : ℕ → List Placed → List Placed → List Placed → List Fragment
-cut_from break body row [] = record { break = break; body = body } ∷ []
-cut_from break body row (q ∷ qs) =
+cut_from break body spacing [] = record { break = break; body = body } ∷ []
+cut_from break body spacing (q ∷ qs) =
     elim (is_gap q.item) [
-      | true ↦ cut_from break body (row ++ q ∷ []) qs
+      | true ↦ cut_from break body (spacing ++ q ∷ []) qs
       | false ↦
-          elim (some endless row) [
-            | true ↦ record { break = break; body = body } ∷ cut_from (sum least row) (q ∷ []) [] qs
-            | false ↦ cut_from break (body ++ (row ++ q ∷ [])) [] qs
+          elim (some endless spacing) [
+            | true ↦ record { break = break; body = body } ∷ cut_from (sum least spacing) (q ∷ []) [] qs
+            | false ↦ cut_from break (body ++ (spacing ++ q ∷ [])) [] qs
           ]
     ]
 

@@ -1,4 +1,4 @@
-use Rattle.std.proofs.Common.{map, reverse, Some, sym, ap, ◌∙◌}
+use Rattle.std.proofs.Common.{map, Some, sym, ap, ◌∙◌}
 use Rattle.kinds.specs.Fragments.{fragments}
 use Rattle.kinds.specs.Search.{found}
 use Rattle.engine.specs.Codes.{codes_of}
@@ -24,7 +24,7 @@ returns-in-Back g c =
     let code = g.R.Element.Kind.alphabet.code in
     let elements = g.R.Reading.elements c.args.reading.now in
     let xs = codes_of g.R.Element.Kind.alphabet elements in
-    let codes = ap (λ f. map code (reverse (g.R.Reading.elements f.reading.now))) c.new-backward.ensures ∙ map_reverse code elements in
+    let codes = ap (map code) c.new-backward.ensures ∙ map_reverse code elements in
     let answer =
     answered s xs c.is_some-in-Back.result
     (c.is_some-in-Back.ensures ∙ c.last_end-in-Back.ensures

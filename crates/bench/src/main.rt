@@ -2,8 +2,8 @@
 #![tactic(auto)]
 
 use engine::text::compiled;
-use kinds::{Backward, Byte, Held, Order, Reading};
 use kinds::pattern::{Offsets, Reference};
+use kinds::{Backward, Byte, Held, Order, Reading};
 use std::process::ExitCode;
 use std::{env, fs, io};
 

@@ -16,8 +16,8 @@ use crate::part::Part;
 use crate::pattern::Pattern;
 use crate::run::Run;
 use crate::token::Gap;
-use kinds::{Kind, Reading};
 use kinds::pattern::Direction;
+use kinds::{Kind, Reading};
 use rows::{Question, Row};
 use std::cmp::Ordering;
 

@@ -12,8 +12,8 @@ use crate::find::least_end;
 use crate::lent::Lent;
 use crate::sequence::Sequence;
 use crate::starts::Starts;
-use kinds::{Backward, Reading};
 use kinds::pattern::Reference;
+use kinds::{Backward, Reading};
 
 // Where the last fragment of a sequence ends, if its fragments are found in a reading one behind the other: the first starting
 // where it may, whatever its break, and each other behind its break.

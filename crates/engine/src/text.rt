@@ -17,8 +17,8 @@ use crate::pattern::Pattern;
 use crate::reader::read;
 use crate::search::hits;
 use crate::sequence::Sequence;
-use kinds::{Kind, Reading};
 use kinds::pattern::{Offsets, Reference};
+use kinds::{Kind, Reading};
 use std::alloc::Global;
 
 // A text's items, or its refusal.

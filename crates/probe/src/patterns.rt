@@ -4,8 +4,8 @@ use crate::elements::elements_of;
 use engine::limits::fragment_count;
 use engine::text;
 use engine::text::{checked, show};
-use kinds::{Byte, Held, Kind};
 use kinds::pattern::{Offsets, Reference};
+use kinds::{Byte, Held, Kind};
 use std::alloc::Global;
 use std::str::FromStr;
 

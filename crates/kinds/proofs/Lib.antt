@@ -2,9 +2,9 @@ pub mod Anchors
 pub mod Backs
 pub mod Compiled
 pub mod Decisions
-pub mod Elements
 pub mod Follows
 pub mod Mirrors
+pub mod Pairs
 pub mod Places
 pub mod Refusals
 pub mod Searches

@@ -44,8 +44,7 @@ fn first_code(parts: &[PlacedPart]) -> Option<u16>
 
 // The last place before one, and not before another, where a code stands.
 fn last_place_of<R: Reading>(code: u16, reading: &R, from: u32, to: u32) -> Option<u32>
-    ensures {
-        LastOrNone code (codes_of R.Element.alphabet (R.elements reading.now)) from to result }
+    ensures { LastOrNone code (codes_of R.Element.alphabet (R.elements reading.now)) from to result }
 {
     // No `find`: of a range from its end, what it says is said of a list turned round.
     for place in (from..to).rev() {

@@ -1,3 +1,3 @@
-pub mod Elements
+pub mod Pairs
 pub mod Places
 pub mod Spellings

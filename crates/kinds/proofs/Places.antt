@@ -1,6 +1,6 @@
 -- What stands at a place of a list that is reversed, mapped or cut.
-use Rattle.std.proofs.Common.{◌≡◌, ℕ, zero, suc, ◌+◌, ◌≤◌, List, [], ◌∷◌, ◌++◌, append_assoc, take, length, Some, None, Option, sym, refl, ap, ◌∙◌, add-zero, zero-add, arith, Bor}
-use Rattle.std.specs.List.{slice_get, cons_option, filter_map, range_with_len}
+use Rattle.std.proofs.Common.{◌≡◌, ℕ, zero, suc, ◌+◌, ◌≤◌, List, [], ◌∷◌, ◌++◌, append_assoc, take, length, Some, None, Option, sym, ap, ◌∙◌, arith, Bor}
+use Rattle.std.specs.List.{slice_get}
 use Rattle.std.specs.Option.{option_map}
 use Rattle.std.specs.Slice.{IsGetResult}
 use Rattle.std.proofs.lemmas.List.{take_more}

@@ -19,11 +19,6 @@ spelled_more a xs place rest [] x two e = absurd (omega arith)
 spelled_more a xs place rest (first ∷ []) x two e = absurd (omega arith)
 spelled_more a xs place rest (first ∷ second ∷ third ∷ more) x two e = absurd (omega arith)
 
--- what is read behind other elements has the fault that it has alone
-pub after_fault : {E : Type 0} (xs : List E) (r : Result (List E) SpellingFault) (fault : SpellingFault) → after xs r ≡ Err fault → r ≡ Err fault
-after_fault xs (Ok ys) fault e = absurd (grind arith)
-after_fault xs (Err other) fault e = e
-
 -- one element more behind those that stood before keeps them
 pub kept_more : {X : Type 0} (n : ℕ) (old ys zs : List X) (x : X) → zs ≡ ys ++ x ∷ [] → n ≤ length ys → take n ys ≡ old → take n zs ≡ old
 kept_more n old ys zs x e h kept = ap (take n) e ∙ take-append-le n ys (x ∷ []) h ∙ kept

@@ -1,4 +1,4 @@
--- Bytes and axle marks keep the law of a kind.
+-- Bytes and axle marks keep the law of a kind. It stands here since a ghost member may cite no proofs/.
 use Rattle.std.specs.Prelude.{◌≡◌, ℕ, ◌<◌, true, Some, None, Option, refl}
 use Rattle.std.proofs.Common.{ap, arith}
 use mathlib.Core.HLevel.{is_prop→PathP}

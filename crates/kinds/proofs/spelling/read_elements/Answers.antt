@@ -1,5 +1,4 @@
 -- A text is at fault for its pairs alone, so want of memory comes from the reservation.
-use Rattle.std.proofs.Common.{arith, rules}
 use Rattle.kinds.proofs.Spellings.{never_memory}
 use Rattle.kinds.proofs.spelling.read_elements.Goals as goal
 

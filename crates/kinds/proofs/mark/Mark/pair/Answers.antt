@@ -1,5 +1,5 @@
 use Rattle.std.proofs.Common.{Some, sym, ap, ◌∙◌}
-use Rattle.kinds.proofs.Elements.{mark_pair_names}
+use Rattle.kinds.proofs.Pairs.{mark_pair_names}
 use Rattle.kinds.specs.declared.mark.Mark.TheVariants.{Single, Dual}
 use Rattle.kinds.proofs.mark.Mark.pair.Goals as goal
 

@@ -19,9 +19,9 @@ use std::marker::{Model, PhantomData};
 /// A compiled sequence over elements of a kind: a pattern text that is not refused, and where it is looked for.
 #[derive(Drop)]
 pub struct Sequence<K> {
-    oriented: Oriented,
-    fragments: ArrayVec<Fragment, MOST_FRAGMENTS>,
-    kind: PhantomData<K>,
+    pub(crate) oriented: Oriented,
+    pub(crate) fragments: ArrayVec<Fragment, MOST_FRAGMENTS>,
+    pub(crate) kind: PhantomData<K>,
 }
 
 impl<K> Model for Sequence<K> {

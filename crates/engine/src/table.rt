@@ -60,8 +60,8 @@ impl Table {
     pub fn set(&mut self, slot: usize, fragment: Fragment)
         ensures { self.new ≡ slice_set self.old slot (Some fragment) }
     {
-        if let Some(place) = self.slots.get_mut(slot) {
-            *place = Some(fragment);
+        if let Some(filled) = self.slots.get_mut(slot) {
+            *filled = Some(fragment);
         }
     }
 
@@ -69,8 +69,8 @@ impl Table {
     pub fn clear(&mut self, slot: usize)
         ensures { self.new ≡ slice_set self.old slot None }
     {
-        if let Some(place) = self.slots.get_mut(slot) {
-            *place = None;
+        if let Some(freed) = self.slots.get_mut(slot) {
+            *freed = None;
         }
     }
 

@@ -28,4 +28,5 @@ pub mod Shows
 pub mod Smallest
 pub mod Sounds
 pub mod Steps
+pub mod Tables
 pub mod Tallies

@@ -19,6 +19,7 @@ pub mod Searched
 pub mod Sequences
 pub mod Smaller
 pub mod Stored
+pub mod Tables
 pub mod Tallies
 pub mod Tokens
 pub mod Turned

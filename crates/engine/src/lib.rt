@@ -23,5 +23,6 @@ pub mod sequence;
 mod smaller;
 mod starts;
 mod step;
+pub mod table;
 pub mod theorems;
 pub mod token;

@@ -19,9 +19,9 @@ use std::marker::{Model, PhantomData};
 /// In contracts it is that: the reference, and the items of the text.
 #[derive(Drop)]
 pub struct Sequence<K> {
-    oriented: Oriented,
-    fragments: ArrayVec<Fragment, MOST_FRAGMENTS>,
-    kind: PhantomData<K>,
+    pub(crate) oriented: Oriented,
+    pub(crate) fragments: ArrayVec<Fragment, MOST_FRAGMENTS>,
+    pub(crate) kind: PhantomData<K>,
 }
 
 impl<K> Model for Sequence<K> {

@@ -46,7 +46,7 @@ pub fn next_fit_up_to<R: Reading>(
         }
         let beyond = reading.at(end as u32)?;
         let shift = shifts[usize::from(beyond.code()) % INDICES];
-        end += shift.max(1) as usize;
+        end += usize::from(shift).max(1);
     }
     None
 }

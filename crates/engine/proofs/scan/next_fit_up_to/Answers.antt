@@ -1,4 +1,4 @@
-use Rattle.std.proofs.Common.{◌≡◌, ◌+◌, ◌-◌, length, get_or, sym, ap, refl, ◌∙◌, inl, inr, ⊎_elim, arith}
+use Rattle.std.proofs.Common.{◌≡◌, ◌+◌, ◌-◌, max, length, get_or, sym, ap, refl, ◌∙◌, inl, inr, ⊎_elim, arith}
 use Rattle.std.proofs.lemmas.List.{length-map}
 use Rattle.std.proofs.lemmas.Bool.{cases_lt}
 use Rattle.patterns.specs.Search.{first_fit}
@@ -35,7 +35,7 @@ loop-end-preserved g c =
     let next : c.loop-end.end + c.max.result - length anchor ≡ place + c.max.result = omega (arith, c.loop-end.invariant.0) in (
       omega (arith, c.loop-end.invariant.0),
       λ table.
-          ap (first_fit anchor codes) next ∙ ap (λ d. first_fit anchor codes (place + d)) c.max.ensures
+          ap (first_fit anchor codes) next ∙ ap (λ d. first_fit anchor codes (place + d)) (c.max.ensures ∙ ap (λ n. max n 1) c.from-in-loop-end.ensures)
           ∙ sym (moves_on anchor codes c.args.shifts.now place c.from.result table (sym c.if-fits.ensures) beyond)
           ∙ c.loop-end.invariant.1 table,
     )

@@ -4,8 +4,6 @@ ghost use Rattle.std.specs.List.{slice_get};
 ghost use Rattle.std.specs.Option.{option_copied};
 ghost use Rattle.engine.specs.Codes.{codes_of};
 ghost use Rattle.engine.specs.Tables.{at_slot, free_slots};
-ghost use Rattle.patterns.specs.Fragments.{bodies};
-ghost use Rattle.patterns.specs.Patterns.{hits as hits_by_rule, Placement};
 
 use crate::fragment::Fragment;
 use crate::limits::MOST_FRAGMENTS;
@@ -13,8 +11,7 @@ use crate::oriented::Oriented;
 use crate::search::{Fragments, found};
 use crate::sequence::Sequence;
 use arrayvec::ArrayVec;
-use kinds::kind::Kind;
-use kinds::reading::Reading;
+use kinds::{Kind, Reading};
 use std::alloc::{AllocError, Global};
 use std::marker::{Model, PhantomData};
 
@@ -39,8 +36,8 @@ impl Model for Table {
 }
 
 impl Table {
-    /// A table of free slots. It needs memory for all of them at once: 96 times the size of a fragment, which is about
-    /// half a kilobyte. No other call needs memory.
+    /// A table of free slots. It needs memory for all of them at once: 96 times the size of a
+    /// fragment, which is about half a kilobyte. No other call needs memory.
     pub fn new(alloc: Global) -> Result<Table, AllocError>
         ensures { IfOk result (λ t. t ≡ replicate 96 None) }
     {
@@ -144,8 +141,8 @@ impl Fragments for Standing<'_> {
 impl<K: Kind> Sequence<K> {
     ghost use Rattle.engine.specs.Tables.{MovedOrNot};
 
-    /// Moves the fragments into the first free slots of a table. Where there are too few, answers the sequence and leaves
-    /// the table as it is.
+    /// Moves the fragments into the first free slots of a table. Where there are too few, answers
+    /// the sequence and leaves the table as it is.
     pub fn into_table(self, table: &mut Table) -> Result<InTable<K>, Sequence<K>>
         ensures { MovedOrNot self table.old table.new result }
     {
@@ -170,6 +167,7 @@ impl<K: Kind> Sequence<K> {
 }
 
 impl<K: Kind> InTable<K> {
+    ghost use Rattle.engine.specs.Said.{hits_in, PlacementIn};
     ghost use Rattle.engine.specs.Sequences.{parts_said, shown};
     ghost use Rattle.engine.specs.Tables.{StandsIn, cleared};
 
@@ -202,10 +200,13 @@ impl<K: Kind> InTable<K> {
         ))
     }
 
-    /// Whether the sequence hits a reading: the decision of the rule, which is true exactly when a placement exists.
+    /// Whether the sequence hits a reading: the decision of the rule, which is true exactly when a
+    /// placement exists (docs/PATTERNS.md, "Placements").
     pub fn hits<R: Reading<Element = K>>(&self, table: &Table, reading: &R) -> bool
-        ensures decision { StandsIn table.now self.now → result ≡ hits_by_rule self.now.said.reference (bodies self.now.said.items) (codes_of K.alphabet (R.elements reading.now)) }
-        ensures placement { StandsIn table.now self.now → IsTrue result ↔ Placement self.now.said.reference (bodies self.now.said.items) (codes_of K.alphabet (R.elements reading.now)) }
+        ensures decision { StandsIn table.now self.now →
+            result ≡ hits_in self.now.said (codes_of K.alphabet (R.elements reading.now)) }
+        ensures placement { StandsIn table.now self.now → IsTrue result ↔
+            PlacementIn self.now.said (codes_of K.alphabet (R.elements reading.now)) }
     {
         let fragments = Standing {
             table,

@@ -1,13 +1,13 @@
 pub mod Codes
 pub mod Compiled
 pub mod Compiling
-pub mod Contexts
 pub mod Examples
 pub mod Extents
 pub mod Faults
 pub mod Finding
 pub mod Lent
 pub mod Limits
+pub mod Meanings
 pub mod Openings
 pub mod Parts
 pub mod Reaching

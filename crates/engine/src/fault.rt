@@ -56,3 +56,12 @@ impl From<AllocError> for Failure {
         Failure::Memory
     }
 }
+
+// A refusal is a reason.
+impl From<Fault> for Failure {
+    ghost from_gives = { λ fault failure. failure ≡ Refused fault };
+
+    fn from(fault: Fault) -> Failure {
+        Failure::Refused(fault)
+    }
+}

@@ -2,8 +2,6 @@
 #![tactic(auto)]
 
 pub mod cause;
-mod context;
-mod cursor;
 pub mod fault;
 mod find;
 pub mod fragment;
@@ -21,7 +19,6 @@ pub mod search;
 pub mod sequence;
 mod smaller;
 mod starts;
-mod step;
 pub mod text;
 pub mod theorems;
 pub mod token;

@@ -24,8 +24,8 @@ use Rattle.engine.specs.Reading.{held}
 use Rattle.engine.specs.Said.{said, parts, HoldsAt, Searches}
 use Rattle.engine.specs.Searched.{Accepted, HoldsIf, HoldsEach}
 use Rattle.engine.specs.Sequences.{outcome}
-use Rattle.engine.specs.declared.cause.Cause.{Cause}
-use Rattle.engine.specs.declared.cause.Cause.TheVariants.{Grammar, Limit, NoLiteral}
+use Rattle.engine.specs.declared.fault.Cause.{Cause}
+use Rattle.engine.specs.declared.fault.Cause.TheVariants.{Grammar, Limit, NoLiteral}
 use Rattle.engine.specs.declared.fragment.Fragment.{Fragment}
 use Rattle.engine.specs.declared.oriented.Oriented.{Oriented}
 use Rattle.engine.proofs.Literals.{literals_said, literals_oriented}

@@ -7,8 +7,8 @@ use Rattle.patterns.specs.Grammar.{Placed}
 use Rattle.patterns.specs.Patterns.{Item}
 use Rattle.engine.specs.Limits.{refusal}
 use Rattle.engine.specs.Tallies.{empty, single, joined, initial, smallest_with, closed, judged, with_gap, begun, extended, with_thing, with_item, tallied}
-use Rattle.engine.specs.declared.cause.Cause.{Cause}
-use Rattle.engine.specs.declared.cause.Cause.TheVariants.{Limit, NoLiteral}
+use Rattle.engine.specs.declared.fault.Cause.{Cause}
+use Rattle.engine.specs.declared.fault.Cause.TheVariants.{Limit, NoLiteral}
 use Rattle.engine.specs.declared.limits.Section.{Section}
 use Rattle.engine.specs.declared.limits.Tally.{Tally}
 

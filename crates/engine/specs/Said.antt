@@ -9,7 +9,7 @@ use Rattle.patterns.specs.declared.reference.Reference.{Reference}
 use Rattle.engine.specs.Compiled.{Hold}
 use Rattle.engine.specs.Reading.{held}
 use Rattle.engine.specs.Searched.{HoldsEach, Searched}
-use Rattle.engine.specs.declared.fault.Failure.{Failure}
+use Rattle.engine.specs.declared.fault.Fault.{Fault}
 use Rattle.engine.specs.declared.fragment.Fragment.{Fragment}
 use Rattle.engine.specs.declared.oriented.Oriented.{Oriented}
 use Rattle.engine.specs.declared.starts.Starts.{Starts}
@@ -36,7 +36,7 @@ abbrev pub end_in : Oriented → Starts → List ℕ → Option ℕ
 end_in o starts xs = least_end (bodies (held o.pattern)) starts.from starts.until xs
 
 -- what is said where there is a pattern
-abbrev pub said_if : Result Oriented Failure → Result Said Failure
+abbrev pub said_if : Result Oriented Fault → Result Said Fault
 said_if (Ok o) = Ok (said o)
 said_if (Err e) = Err e
 

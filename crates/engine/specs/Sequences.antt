@@ -12,10 +12,9 @@ use Rattle.patterns.specs.declared.reference.Reference.{Reference}
 use Rattle.engine.specs.Limits.{refusal}
 use Rattle.engine.specs.Reading.{held}
 use Rattle.engine.specs.Said.{Said}
-use Rattle.engine.specs.declared.cause.Cause.{Cause}
-use Rattle.engine.specs.declared.cause.Cause.TheVariants.{Grammar}
-use Rattle.engine.specs.declared.fault.Failure.{Failure}
-use Rattle.engine.specs.declared.fault.Failure.TheVariants as failure
+use Rattle.engine.specs.declared.fault.Cause.{Cause}
+use Rattle.engine.specs.declared.fault.Cause.TheVariants.{Grammar}
+use Rattle.engine.specs.declared.fault.Fault.{Fault}
 use Rattle.engine.specs.declared.pattern.Pattern.{Pattern}
 
 -- the items of a text, or the cause and the place of its refusal
@@ -26,20 +25,22 @@ outcome a t =
       | Ok qs ↦ elim (refusal qs) [ Some c ↦ Err c | None ↦ Ok qs ]
     ]
 
--- memory ran out, or a refusal has the cause, the sequence and the place
-abbrev pub Refused : {E : Type 0} → Alphabet E → List ℕ → ℕ → Failure → Type 0
-Refused a t sequence failure.Memory = ⊤
-Refused a t sequence (failure.Refused f) = (outcome a t ≡ Err (f.cause, f.place)) × (f.sequence ≡ sequence)
+-- a refusal has the cause and the place of a text's, and the number of its sequence
+abbrev pub Refused : {E : Type 0} → Alphabet E → List ℕ → ℕ → Fault → Type 0
+Refused a t sequence f = (outcome a t ≡ Err (f.cause, f.place)) × (f.sequence ≡ sequence)
 
 -- a text read and not refused gives its items, else it is refused
-abbrev pub Checked : {E : Type 0} → Alphabet E → List ℕ → ℕ → Result Pattern Failure → Type 0
+abbrev pub Checked : {E : Type 0} → Alphabet E → List ℕ → ℕ → Result Pattern Fault → Type 0
 Checked a t sequence (Ok p) = outcome a t ≡ Ok (held p)
 Checked a t sequence (Err f) = Refused a t sequence f
 
--- a text not refused gives a sequence of its items, else it is refused
-abbrev pub Compiled : {E : Type 0} → Alphabet E → List ℕ → ℕ → Reference → Result Said Failure → Type 0
-Compiled a t number r (Ok s) = (s.reference ≡ r) × (outcome a t ≡ Ok s.items)
-Compiled a t number r (Err f) = Refused a t number f
+-- the sequence that a text is compiled to, or the refusal of the text, with the sequence's number
+abbrev pub compiled : {E : Type 0} → Alphabet E → ℕ → Reference → List ℕ → Result Said Fault
+compiled a number r t =
+    elim (outcome a t) [
+      | Ok qs ↦ Ok (record { reference = r; items = qs })
+      | Err c ↦ Err (record { cause = c.0; sequence = number; place = c.1 })
+    ]
 
 -- the fragments of a sequence, numbered in the order of its search
 abbrev pub parts_said : Said → List spec.Fragment

@@ -1,115 +1,173 @@
--- What tokens do to the reader of texts: the link between the lexer and the reader's definition.
-use Rattle.std.specs.Prelude.{◌≡◌, ℕ, ◌<◌, ◌≤◌, if◌then◌else◌, List, length, take, drop, Some, None, Ok, Err, Option, Result, ◌==◌, ⊤}
+-- The tokens of a pattern text, and the lexer that hands them out, as a definition that computes.
+use Rattle.std.specs.Prelude.{ℕ, suc, ◌+◌, ◌-◌, ◌*◌, Bool, true, false, if◌then◌else◌, List, [], ◌∷◌, ◌++◌, length, take, drop, is_some, Some, None, Ok, Err, codes, Option, Result, ◌==◌, nat_lt}
+use Rattle.std.specs.List.{slice_split, position}
 use Rattle.kinds.specs.Alphabet.{Alphabet}
-use Rattle.patterns.specs.Grammar.{Placed, gap_allowed, behind}
-use Rattle.patterns.specs.Patterns.{Item, any, gap}
-use Rattle.patterns.specs.Reader.{State, between, asked, half, alternatives, bracket, low, high, digits, endless, Next, stuck, goes_on, complete, with_code, next, follow, in_front}
+use Rattle.patterns.specs.Grammar.{Position, start, after_thing, after_gap, may_end}
+use Rattle.patterns.specs.Patterns as item
+use Rattle.patterns.specs.Patterns.{Item}
+use Rattle.patterns.specs.Reader.{State, between, Next, stuck, goes_on, complete, leads, next}
+use Rattle.engine.specs.declared.lexer.Position.TheVariants as position
+use Rattle.engine.specs.declared.lexer.Position.{Position as CodePosition}
 use Rattle.engine.specs.declared.lexer.Stop.{Stop}
-use Rattle.engine.specs.declared.token.Punctuation.{Punctuation}
-use Rattle.engine.specs.declared.token.Punctuation.TheVariants.{OpenGroup, Bar, CloseGroup, OpenRange, Except, Colon, CloseRange}
-use Rattle.engine.specs.declared.token.Expects.{Expects}
-use Rattle.engine.specs.declared.token.Expects.TheVariants as expects
-use Rattle.engine.specs.declared.token.Gap.{Gap}
-use Rattle.engine.specs.declared.token.Class.{Class}
-use Rattle.engine.specs.declared.token.Class.TheVariants as class
+use Rattle.engine.specs.declared.token.RunText.{RunText}
+use Rattle.engine.specs.declared.token.RunsText.{RunsText}
 use Rattle.engine.specs.declared.token.Token.{Token}
 use Rattle.engine.specs.declared.token.Token.TheVariants as token
 
--- what the reader expects in a state: nothing is asked inside a token
-abbrev pub expected : State → Option Expects
-expected (between p) = Some (if gap_allowed p then expects.Item else expects.Thing)
-expected asked = None
-expected (half s f) = None
-expected (alternatives runs run) = Some expects.Alternative
-expected bracket = Some expects.Range
-expected (low inside run) = Some expects.Low
-expected (high inside first run) = Some expects.High
-expected (digits n k v) = None
-expected (endless m) = None
+-- a part of a text, and the place where it begins
+pub record Slice : Type 0 where
+  pub place : ℕ
+  pub text : List ℕ
 
--- what a character begins between items, where a gap may stand or not
-abbrev pub class_between : Class → Class → ℕ → Class
-class_between star brace c =
-    if c == 63 then class.Question
-    else if c == 40 then class.Mark OpenGroup
-    else if c == 91 then class.Mark OpenRange
-    else if c == 42 then star
-    else if c == 123 then brace
-    else class.Pair
+-- A token, by the parts of the text that it holds.
+pub data Lexeme : Type 0 where
+  -- neighbouring literals
+  literals : Slice → Lexeme
+  -- any one element
+  any : Lexeme
+  -- a group: its runs, with bars between them
+  group : Slice → Lexeme
+  -- a range, inside or not: its first run and its second
+  range : Bool → Slice → Slice → Lexeme
+  -- what one run leaves out
+  other : Slice → Lexeme
+  -- a gap as it is written, with its least length and its greatest
+  gap : Slice → ℕ → Option ℕ → Lexeme
 
--- what a character begins where something is expected
-abbrev pub class_of : Expects → ℕ → Class
-class_of expects.Thing c = class_between class.Misplaced class.Misplaced c
-class_of expects.Item c = class_between class.Star class.Brace c
-class_of expects.Alternative c = if c == 124 then class.Mark Bar else if c == 41 then class.Mark CloseGroup else class.Pair
-class_of expects.Range c = if c == 33 then class.Mark Except else class.Pair
-class_of expects.Low c = if c == 58 then class.Mark Colon else if c == 93 then class.Mark CloseRange else class.Pair
-class_of expects.High c = if c == 93 then class.Mark CloseRange else class.Pair
+-- the part of a text from a place to before another
+abbrev pub slice : List ℕ → ℕ → ℕ → Slice
+slice t from to = record { place = from; text = take (to - from) (drop from t) }
 
--- the character of a punctuation
-abbrev pub character : Punctuation → ℕ
-character OpenGroup = 40
-character Bar = 124
-character CloseGroup = 41
-character OpenRange = 91
-character Except = 33
-character Colon = 58
-character CloseRange = 93
+-- a token as it is written
+abbrev pub written : Lexeme → List ℕ
+written (literals run) = run.text
+written any = codes "??"
+written (group runs) = codes "(" ++ (runs.text ++ codes ")")
+written (range true low high) = codes "[" ++ (low.text ++ (codes ":" ++ (high.text ++ codes "]")))
+written (range false low high) = codes "[!" ++ (low.text ++ (codes ":" ++ (high.text ++ codes "]")))
+written (other run) = codes "[!" ++ (run.text ++ codes "]")
+written (gap spelling least most) = spelling.text
 
--- a literal holds the two characters at its place, and the place
-abbrev pub Part : List ℕ → ℕ → Token → Type 0
-Part t place (token.Literal pair at code) = (pair.now ≡ take 2 (drop place t)) × (at ≡ place)
-Part t place token.Any = ⊤
-Part t place (token.Mark m) = ⊤
-Part t place (token.Gap g) = ⊤
+-- the texts between the bars of a text
+abbrev pub between_bars : List ℕ → List (List ℕ)
+between_bars t = slice_split (λ c. c == 124) t
+
+-- the first run of a group and the rest behind its bar, by the place of the bar in the text, if it has one
+abbrev pub first_to : Slice → Option ℕ → Slice × Option Slice
+first_to s None = (s, None)
+first_to s (Some bar) = (record { place = s.place; text = take bar s.text }, Some (record { place = s.place + bar + 1; text = drop (bar + 1) s.text }))
+
+abbrev pub first_run : Slice → Slice × Option Slice
+first_run s = first_to s (position (λ c. c == 124) s.text)
+
+-- the position behind a token
+abbrev pub behind_lexeme : Lexeme → Position
+behind_lexeme (literals run) = after_thing
+behind_lexeme any = after_thing
+behind_lexeme (group runs) = after_thing
+behind_lexeme (range inside low high) = after_thing
+behind_lexeme (other run) = after_thing
+behind_lexeme (gap spelling least most) = after_gap
+
+-- the range whose first run begins at one place, whose colon stands at another, and whose closing bracket at a third
+abbrev pub range_between : List ℕ → Bool → ℕ → ℕ → ℕ → Lexeme
+range_between t inside from colon close = range inside (slice t from colon) (slice t (colon + 1) close)
 
 module _ {E : Type 0} (a : Alphabet E) where
-  -- what a token does in a state
-  abbrev pub with_token : State → Token → Next
-  with_token s (token.Literal pair at code) = with_code a s code
-  with_token s token.Any = complete any
-  with_token s (token.Mark m) = next a s (character m)
-  with_token s (token.Gap g) = complete (gap g.least g.most)
+  -- how many pairs that name elements a text begins with
+  abbrev pub pairs : List ℕ → ℕ
+  pairs [] = 0
+  pairs (first ∷ []) = 0
+  pairs (first ∷ second ∷ t) = if is_some (a.named first second) then suc (pairs t) else 0
 
-  -- the rest of a text behind a token that began at `at`
-  abbrev pub continued : Next → ℕ → ℕ → ℕ → List ℕ → Result (List Placed) ℕ
-  continued n from at place t =
-      elim n [
-        | stuck ↦ Err at
-        | goes_on s ↦ follow a s from place t
-        | complete i ↦ in_front a (record { place = from; item = i }) (follow a (between (behind i)) place place t)
+  -- the codes of the elements that these pairs name
+  abbrev pub codes_in : List ℕ → List ℕ
+  codes_in [] = []
+  codes_in (first ∷ []) = []
+  codes_in (first ∷ second ∷ t) = elim (a.named first second) [ None ↦ [] | Some x ↦ a.code x ∷ codes_in t ]
+
+  -- the place of the first character that cannot stand, where a text at a place has to begin with a pair and does not
+  abbrev pub pair_stop : ℕ → List ℕ → ℕ
+  pair_stop place [] = place
+  pair_stop place (first ∷ t) = if leads a first then place + 1 else place
+
+  -- The item that a text at a place completes in a state, with the place behind it; or the place of the first character that
+  -- cannot stand, which is the end of the text where more was to come.
+  abbrev pub item_from : State → ℕ → List ℕ → Result (Item × ℕ) ℕ
+  item_from s place [] = Err place
+  item_from s place (c ∷ t) =
+      elim (next a s c) [
+        | stuck ↦ Err place
+        | goes_on s' ↦ item_from s' (place + 1) t
+        | complete i ↦ Ok (i, place + 1)
       ]
 
-  -- from a place on, a text completes an item in a state, and goes on at a later place
-  pub record Completes (t : List ℕ) (s : State) (place : ℕ) (i : Item) (later : ℕ) : Type 0 where
-    pub forward : place < later
-    pub inside : later ≤ length t
-    pub reads : (from : ℕ) → follow a s from place (drop place t) ≡ in_front a (record { place = from; item = i }) (follow a (between (behind i)) later later (drop later t))
+  -- the token of an item that stands in a text from a place to before another; literals are taken together
+  abbrev pub lexeme_of : List ℕ → ℕ → ℕ → Item → Lexeme
+  lexeme_of t from to (item.literal c) = literals (slice t from (from + 2 * pairs (drop from t)))
+  lexeme_of t from to item.any = any
+  lexeme_of t from to (item.group runs) = group (slice t (from + 1) (to - 1))
+  lexeme_of t from to (item.range d true low high) = range_between t true (from + 1) (from + 1 + 2 * length low) (to - 1)
+  lexeme_of t from to (item.range d false low high) = range_between t false (from + 2) (from + 2 + 2 * length low) (to - 1)
+  lexeme_of t from to (item.other run) = other (slice t (from + 2) (to - 1))
+  lexeme_of t from to (item.gap least most) = gap (slice t from to) least most
 
-  -- from a place on, a text completes a gap in a state, and goes on at the place behind it
-  abbrev pub ReadsGap : List ℕ → State → ℕ → Gap × ℕ → Type 0
-  ReadsGap t s place r = Completes t s place (gap r.0.least r.0.most) r.1
+  -- the token at a place, by what the text completes there
+  abbrev pub lexeme_at : List ℕ → ℕ → Result (Item × ℕ) ℕ → Result (Option Lexeme) ℕ
+  lexeme_at t from (Ok r) = Ok (Some (lexeme_of t from r.1 r.0))
+  lexeme_at t from (Err at) = Err at
 
-  -- from a place on, a text cannot be read in a state past another place
-  abbrev pub Stops : List ℕ → State → ℕ → ℕ → Type 0
-  Stops t s place at = (from : ℕ) → follow a s from place (drop place t) ≡ Err at
+  -- The next token of a text at a place, by its position there; none where the text may end and has ended; or the place of the
+  -- first character that cannot stand.
+  abbrev pub lexed : List ℕ → Position → ℕ → Result (Option Lexeme) ℕ
+  lexed t p place =
+      if nat_lt place (length t) then lexeme_at t place (item_from (between p) place (drop place t))
+      else if may_end p then Ok None
+      else Err place
 
-  -- in every state that expects e, a text reads from a place on as the token does, and goes on at a later place
-  pub record ReadsToken (t : List ℕ) (e : Expects) (place : ℕ) (tok : Token) (later : ℕ) : Type 0 where
-    pub forward : place < later
-    pub inside : later ≤ length t
-    pub reads : (s : State) (from : ℕ) → expected s ≡ Some e → follow a s from place (drop place t) ≡ continued (with_token s tok) from place later (drop later t)
+-- What the code answers, in the words above.
 
-  -- in every state that expects e, a text cannot be read past a place
-  abbrev pub StopsExpecting : List ℕ → Expects → ℕ → ℕ → Type 0
-  StopsExpecting t e place at = (s : State) → expected s ≡ Some e → Stops t s place at
+-- the text of a run
+abbrev pub run_slice : RunText → Slice
+run_slice run = record { place = run.place; text = run.text.now }
 
-  -- a token with the place behind it
-  abbrev pub ReadsPart : List ℕ → Expects → ℕ → Token × ℕ → Type 0
-  ReadsPart t e place r = ReadsToken t e place r.0 r.1 × Part t place r.0
+-- the text of a group's runs
+abbrev pub runs_slice : RunsText → Slice
+runs_slice runs = record { place = runs.place; text = runs.text.now }
 
-  -- what the lexer answers where e is expected, and where it then is
-  abbrev pub Lexed : List ℕ → Expects → ℕ → Result (Option Token) Stop → ℕ → Type 0
-  Lexed t e place (Ok None) later = (place ≡ length t) × (later ≡ place)
-  Lexed t e place (Ok (Some tok)) later = ReadsPart t e place (tok, later)
-  Lexed t e place (Err stop) later = StopsExpecting t e place stop.place × (later ≡ place)
+-- a token
+abbrev pub lexeme_in : Token → Lexeme
+lexeme_in (token.Literals run) = literals (run_slice run)
+lexeme_in token.Any = any
+lexeme_in (token.Group runs) = group (runs_slice runs)
+lexeme_in (token.Range inside low high) = range inside (run_slice low) (run_slice high)
+lexeme_in (token.Other run) = other (run_slice run)
+lexeme_in (token.Gap spelling place g) = gap (record { place = place; text = spelling.now }) g.least g.most
+
+-- an answer
+abbrev pub answer_in : Result (Option Token) Stop → Result (Option Lexeme) ℕ
+answer_in (Ok None) = Ok None
+answer_in (Ok (Some tok)) = Ok (Some (lexeme_in tok))
+answer_in (Err stop) = Err stop.place
+
+-- what the lexer passed with an answer
+abbrev pub passed : Result (Option Token) Stop → List ℕ
+passed (Ok None) = []
+passed (Ok (Some tok)) = written (lexeme_in tok)
+passed (Err stop) = []
+
+-- a position
+abbrev pub position_in : CodePosition → Position
+position_in position.Start = start
+position_in position.AfterThing = after_thing
+position_in position.AfterGap = after_gap
+
+-- the position behind a token
+abbrev pub behind_token : Token → Position
+behind_token tok = behind_lexeme (lexeme_in tok)
+
+-- the position behind an answer: only a token moves the lexer on
+abbrev pub position_behind : Result (Option Token) Stop → Position → Position
+position_behind (Ok None) p = p
+position_behind (Ok (Some tok)) p = behind_token tok
+position_behind (Err stop) p = p

@@ -1,39 +1,103 @@
 // Hands out the tokens of a pattern text.
-ghost use Rattle.std.specs.Prelude.{◌≡◌, false, length, take, MatchOption, MatchResult};
-ghost use Rattle.std.specs.List.{prefix_len};
-ghost use Rattle.engine.specs.Scanning.{standing, Behind, Passes, GoesOn, NoPair, NoDigit, LongestNumber};
-ghost use Rattle.engine.specs.Tokens.{class_of, ReadsGap, Stops, ReadsPart, StopsExpecting, Lexed};
+ghost use Rattle.std.specs.Prelude.{◌≡◌, ◌+◌, ◌-◌, ◌<◌, ◌≤◌, ◌++◌, ◌==◌, IsTrue, ◌↔◌, ◌⊎◌, [], true, false, length, take, drop, MatchOption, MatchResult, slice_index};
+ghost use Rattle.std.specs.List.{position, prefix_len};
+ghost use Rattle.std.specs.Option.{option_map};
+ghost use Rattle.engine.specs.Scanning.{standing, opening, Behind, Passes, NoDigit, LongestNumber, RunBehind, PairBehind, CompletesAs, CompletesGroup, CompletesGap, Lexes, Stops};
+ghost use Rattle.engine.specs.Tokens.{first_run, run_slice, runs_slice, pairs, pair_stop, lexed, answer_in, passed, position_in, position_behind, behind_token};
 ghost use Rattle.kinds.specs.Alphabet.{within};
-ghost use Rattle.patterns.specs.Grammar.{Digits, followed_by};
-ghost use Rattle.patterns.specs.Reader.{digits, leads, least as lower, most as upper};
+ghost use Rattle.patterns.specs.Grammar.{Digits, followed_by, gap_allowed as allows_gap, may_end as may_end_at};
+ghost use Rattle.patterns.specs.Reader.{alternatives, between as between_items, bracket, digits, leads, least as lower, low as low_run, most as upper};
 
-use crate::cursor::Cursor;
-use crate::token::{Class, Expects, Gap, Punctuation, Token};
+use crate::token::{Cursor, Gap, RunText, RunsText, Token};
 use kinds::Kind;
 
-// Where a text cannot be read on.
+/// Where a text cannot be read on.
 #[derive(Clone, Copy, PartialEq, Eq, Debug)]
 pub struct Stop {
     pub place: usize,
 }
 
-// What a character begins where something is expected.
-fn class(expects: Expects, c: u8) -> Class
-    ensures { result ≡ class_of expects c }
-{
-    match (expects, c) {
-        (Expects::Thing | Expects::Item, b'?') => Class::Question,
-        (Expects::Thing | Expects::Item, b'(') => Class::Mark(Punctuation::OpenGroup),
-        (Expects::Thing | Expects::Item, b'[') => Class::Mark(Punctuation::OpenRange),
-        (Expects::Item, b'*') => Class::Star,
-        (Expects::Item, b'{') => Class::Brace,
-        (Expects::Thing, b'*' | b'{') => Class::Misplaced,
-        (Expects::Alternative, b'|') => Class::Mark(Punctuation::Bar),
-        (Expects::Alternative, b')') => Class::Mark(Punctuation::CloseGroup),
-        (Expects::Range, b'!') => Class::Mark(Punctuation::Except),
-        (Expects::Low, b':') => Class::Mark(Punctuation::Colon),
-        (Expects::Low | Expects::High, b']') => Class::Mark(Punctuation::CloseRange),
-        _ => Class::Pair,
+/// Where a text is between its items: it decides whether a gap may stand and whether the text may end.
+#[derive(Clone, Copy, PartialEq, Eq, Debug)]
+pub enum Position {
+    Start,
+    AfterThing,
+    AfterGap,
+}
+
+impl Position {
+    // Whether a gap may stand here.
+    fn gap_allowed(self) -> bool
+        ensures { result ≡ allows_gap (position_in self) }
+    {
+        !matches!(self, Position::Start)
+    }
+
+    // Whether the text may end here.
+    fn may_end(self) -> bool
+        ensures { result ≡ may_end_at (position_in self) }
+    {
+        matches!(self, Position::AfterThing)
+    }
+
+    // The position behind a token.
+    fn behind(token: Token) -> Position
+        ensures { position_in result ≡ behind_token token.entry }
+    {
+        match token {
+            Token::Gap { .. } => Position::AfterGap,
+            _ => Position::AfterThing,
+        }
+    }
+}
+
+/// Hands out the tokens of a lent text of any length, from its start to its end.
+#[derive(Drop)]
+pub struct Lexer<'t> {
+    at: Cursor<'t>,
+    position: Position,
+}
+
+impl<'t> Lexer<'t> {
+    /// The lexer at the start of a text.
+    pub fn new(text: &'t [u8]) -> Lexer<'t>
+        ensures text { result.at.text.now ≡ text.now }
+        ensures place { result.at.place ≡ 0 }
+        ensures position { result.position ≡ Position.Start }
+    {
+        Lexer {
+            at: Cursor::new(text),
+            position: Position::Start,
+        }
+    }
+
+    /// The place behind the last token, in characters.
+    pub fn place(&self) -> usize
+        ensures { result ≡ self.now.at.place }
+    {
+        self.at.place
+    }
+
+    /// The next token; none where the text may end and has ended. Refused at the first character that cannot stand, and at the
+    /// end of a text that may not end. Only a token moves the lexer on.
+    pub fn next<K: Kind>(&mut self) -> Result<Option<Token<'t>>, Stop>
+        ensures same_text { self.new.at.text.now ≡ self.old.at.text.now }
+        ensures answer { answer_in result ≡ lexed K.alphabet self.old.at.text.now (position_in self.old.position) self.old.at.place }
+        ensures moves { self.new.at.place ≡ self.old.at.place + length (passed result) }
+        ensures position { position_in self.new.position ≡ position_behind result (position_in self.old.position) }
+        ensures written { drop self.old.at.place self.old.at.text.now ≡ passed result ++ drop self.new.at.place self.old.at.text.now }
+    {
+        if self.at.is_at_end() {
+            return if self.position.may_end() {
+                Ok(None)
+            } else {
+                Err(self.at.stop())
+            };
+        }
+        let (token, later) = self.at.token::<K>(self.position)?;
+        self.at = later;
+        self.position = Position::behind(token);
+        Ok(Some(token))
     }
 }
 
@@ -42,6 +106,13 @@ fn begins_pair<K: Kind>(first: u8) -> bool
     ensures { result ≡ leads K.alphabet first }
 {
     (0..=u8::MAX).any(|second| K::named(first, second).is_some())
+}
+
+// Where the first bar of a text stands, if it has one.
+fn first_bar(text: &[u8]) -> Option<usize>
+    ensures { result ≡ position (λ c. c == 124) text.now }
+{
+    text.iter().position(|c| *c == b'|')
 }
 
 // How many digits a text begins with, up to four.
@@ -54,136 +125,62 @@ fn digit_count(text: &[u8]) -> usize
         .count()
 }
 
-// A lexer over a lent text.
-#[derive(Drop)]
-pub struct Lexer<'t> {
-    at: Cursor<'t>,
-}
-
-impl<'t> Lexer<'t> {
-    // The lexer at the start of a text.
-    pub fn new(text: &'t [u8]) -> Lexer<'t>
-        ensures text { result.at.text.now ≡ text.now }
-        ensures place { result.at.place ≡ 0 }
+impl<'t> RunsText<'t> {
+    /// The first run, and those behind its bar, if it has one.
+    pub fn first_and_rest(self) -> (RunText<'t>, Option<RunsText<'t>>)
+        ensures { (run_slice result.0, option_map runs_slice result.1) ≡ first_run (runs_slice self.entry) }
     {
-        Lexer {
-            at: Cursor { text, place: 0 },
+        let RunsText { text, place } = self;
+        match first_bar(text) {
+            Some(bar) => {
+                let first = RunText {
+                    text: &text[..bar],
+                    place,
+                };
+                let rest = RunsText {
+                    text: &text[bar + 1..],
+                    place: place + bar + 1,
+                };
+                (first, Some(rest))
+            }
+            None => (RunText { text, place }, None),
         }
-    }
-
-    // The place behind the last token.
-    pub fn place(&self) -> usize
-        ensures { result ≡ self.now.at.place }
-    {
-        self.at.place
-    }
-
-    // The next token where something is expected, none at the end of the text, or the place where the text cannot be read
-    // on. Only a token moves the lexer on.
-    pub fn next<K: Kind>(&mut self, expects: Expects) -> Result<Option<Token<'t>>, Stop>
-        ensures same_text { self.new.at.text.now ≡ self.old.at.text.now }
-        ensures token { Lexed K.alphabet self.old.at.text.now expects self.old.at.place result self.new.at.place }
-    {
-        let Some((token, later)) = self.at.token::<K>(expects)? else {
-            return Ok(None);
-        };
-        self.at = later;
-        Ok(Some(token))
     }
 }
 
 impl<'t> Cursor<'t> {
-    // The next token, with the cursor behind it; none at the end of the text.
-    fn token<K: Kind>(self, expects: Expects) -> Result<Option<(Token<'t>, Cursor<'t>)>, Stop>
-        ensures { MatchResult result (λ o. MatchOption o (self.entry.place ≡ length self.entry.text.now) (Behind self.entry (ReadsPart K.alphabet self.entry.text.now expects self.entry.place))) (λ stop. StopsExpecting K.alphabet self.entry.text.now expects self.entry.place stop.place) }
+    // The cursor at the start of a text.
+    pub(crate) fn new(text: &'t [u8]) -> Cursor<'t>
+        ensures text { result.text.now ≡ text.now }
+        ensures place { result.place ≡ 0 }
     {
-        let Some((first, behind)) = self.split_first() else {
-            return Ok(None);
-        };
-        let read = match class(expects, first) {
-            Class::Mark(mark) => (Token::Mark(mark), behind),
-            Class::Question => {
-                let later = behind.require(b'?')?;
-                (Token::Any, later)
-            }
-            Class::Star => (
-                Token::Gap(Gap {
-                    least: 0,
-                    most: None,
-                }),
-                behind,
-            ),
-            Class::Brace => {
-                let (gap, later) = behind.gap::<K>()?;
-                (Token::Gap(gap), later)
-            }
-            Class::Pair => match behind.second::<K>(first) {
-                Some((code, later)) => {
-                    let place = self.place;
-                    let pair = &self.text[place..later.place];
-                    (Token::Literal { pair, place, code }, later)
-                }
-                None if begins_pair::<K>(first) => return Err(behind.stop()),
-                None => return Err(self.stop()),
-            },
-            Class::Misplaced => return Err(self.stop()),
-        };
-        Ok(Some(read))
+        Cursor { text, place: 0 }
     }
 
-    // A gap behind its opening brace, with the cursor behind it.
-    fn gap<K: Kind>(self) -> Result<(Gap, Cursor<'t>), Stop>
-        ensures { MatchResult result (Behind self.entry (ReadsGap K.alphabet self.entry.text.now (digits lower 0 0) self.entry.place)) (λ stop. Stops K.alphabet self.entry.text.now (digits lower 0 0) self.entry.place stop.place) }
+    // Whether the text has ended.
+    fn is_at_end(self) -> bool
+        ensures { IsTrue result ↔ (length self.entry.text.now ≤ self.entry.place) }
     {
-        let (least, end) = self.number()?;
-        if let Some(upper) = end.past(b'-') {
-            return upper.upper_end::<K>(least);
-        }
-        let later = end.require(b'}')?;
-        let most = Some(least);
-        Ok((Gap { least, most }, later))
+        self.place == self.text.len()
     }
 
-    // A gap behind the dash after its least length, with the cursor behind it.
-    fn upper_end<K: Kind>(self, least: u16) -> Result<(Gap, Cursor<'t>), Stop>
-        ensures { MatchResult result (Behind self.entry (ReadsGap K.alphabet self.entry.text.now (digits (upper least) 0 0) self.entry.place)) (λ stop. Stops K.alphabet self.entry.text.now (digits (upper least) 0 0) self.entry.place stop.place) }
-    {
-        let (most, end) = if let Some(end) = self.past(b'*') {
-            (None, end)
-        } else {
-            let (most, end) = self.number()?;
-            (Some(most), end)
-        };
-        let later = end.require(b'}')?;
-        Ok((Gap { least, most }, later))
-    }
-
-    // A number of one to four digits, with the cursor behind it.
-    fn number(self) -> Result<(u16, Cursor<'t>), Stop>
-        ensures { MatchResult result (Behind self.entry (LongestNumber self.entry.text.now self.entry.place)) (λ stop. NoDigit self.entry.text.now self.entry.place × (stop.place ≡ self.entry.place)) }
+    // The next character, with the cursor behind it; nothing at the end of the text.
+    fn split_first(self) -> Option<(u8, Cursor<'t>)>
+        ensures { MatchOption result (self.entry.place ≡ length self.entry.text.now) (λ r. (self.entry.place < length self.entry.text.now) × (r.0 ≡ slice_index self.entry.text.now self.entry.place) × (r.1.text.now ≡ self.entry.text.now) × (r.1.place ≡ self.entry.place + 1)) }
     {
         let Cursor { text, place } = self;
-        let rest = &text[place..];
-        let digits = &rest[..digit_count(rest)];
-        if digits.is_empty() {
-            return Err(self.stop());
-        }
-        let mut value = 0;
-        for digit in digits {
-            value = value * 10 + u16::from(*digit - b'0');
-        }
-        let place = place + digits.len();
-        Ok((value, Cursor { text, place }))
+        let first = *text.get(place)?;
+        let place = place + 1;
+        Some((first, Cursor { text, place }))
     }
 
-    // The code of the element that a pair names, behind its first character, with the cursor behind the pair; nothing where
-    // no such pair stands.
-    fn second<K: Kind>(self, first: u8) -> Option<(u16, Cursor<'t>)>
-        ensures { MatchOption result (NoPair K.alphabet first self.entry.text.now self.entry.place) (Behind self.entry (GoesOn K.alphabet first self.entry.text.now self.entry.place)) }
+    // The text from here to before a later place.
+    fn text_to(self, end: usize) -> &'t [u8]
+        requires order { self.place ≤ end }
+        requires inside { end ≤ length self.text.now }
+        ensures { result.now ≡ take (end - self.entry.place) (drop self.entry.place self.entry.text.now) }
     {
-        let (second, later) = self.split_first()?;
-        let x = K::named(first, second)?;
-        Some((x.code(), later))
+        &self.text[self.place..end]
     }
 
     // The cursor behind a character, if that stands next.
@@ -206,5 +203,192 @@ impl<'t> Cursor<'t> {
         ensures { result.place ≡ self.entry.place }
     {
         Stop { place: self.place }
+    }
+
+    // The element that the pair here names, with the cursor behind the pair; nothing where no pair names one.
+    pub(crate) fn pair<K: Kind>(self) -> Option<(K, Cursor<'t>)>
+        ensures { MatchOption result (pairs K.alphabet (drop self.entry.place self.entry.text.now) ≡ 0) (PairBehind K.alphabet self.entry) }
+    {
+        let (first, behind) = self.split_first()?;
+        let (second, later) = behind.split_first()?;
+        let element = K::named(first, second)?;
+        Some((element, later))
+    }
+
+    // That no pair can be read from here: its second character cannot stand, if a pair begins with the first.
+    fn pair_stop<K: Kind>(self) -> Stop
+        ensures { result.place ≡ pair_stop K.alphabet self.entry.place (drop self.entry.place self.entry.text.now) }
+    {
+        match self.split_first() {
+            Some((first, behind)) if begins_pair::<K>(first) => behind.stop(),
+            _ => self.stop(),
+        }
+    }
+
+    // The longest run from here on, of one literal or more, with the cursor behind it.
+    fn run<K: Kind>(self) -> Result<(RunText<'t>, Cursor<'t>), Stop>
+        ensures { MatchResult result (RunBehind K.alphabet self.entry) (λ stop. (pairs K.alphabet (drop self.entry.place self.entry.text.now) ≡ 0) × (stop.place ≡ pair_stop K.alphabet self.entry.place (drop self.entry.place self.entry.text.now))) }
+    {
+        let mut end = self;
+        while let Some((_, later)) = end.pair::<K>() {
+            end = later;
+        }
+        if end.place == self.place {
+            return Err(self.pair_stop::<K>());
+        }
+        let text = self.text_to(end.place);
+        let place = self.place;
+        Ok((RunText { text, place }, end))
+    }
+
+    // The cursor behind a character that has to stand behind a run, where the run might go on in its place.
+    fn end_run<K: Kind>(self, c: u8) -> Result<Cursor<'t>, Stop>
+        ensures { MatchResult result (Passes self.entry c) (λ stop. (standing self.entry.text.now self.entry.place c ≡ false) × (stop.place ≡ pair_stop K.alphabet self.entry.place (drop self.entry.place self.entry.text.now))) }
+    {
+        match self.past(c) {
+            Some(later) => Ok(later),
+            None => Err(self.pair_stop::<K>()),
+        }
+    }
+
+    // A group of two runs or more behind its opening parenthesis, with the cursor behind it.
+    fn group<K: Kind>(self) -> Result<(RunsText<'t>, Cursor<'t>), Stop>
+        ensures { MatchResult result (Behind self.entry (CompletesGroup K.alphabet self.entry.text.now self.entry.place)) (λ stop. Stops K.alphabet self.entry.text.now (alternatives [] []) self.entry.place stop.place) }
+    {
+        let (_, first_end) = self.run::<K>()?;
+        let mut next = first_end.end_run::<K>(b'|')?;
+        loop {
+            let (_, end) = next.run::<K>()?;
+            match end.past(b'|') {
+                Some(later) => next = later,
+                None => {
+                    let later = end.end_run::<K>(b')')?;
+                    let text = self.text_to(end.place);
+                    let place = self.place;
+                    return Ok((RunsText { text, place }, later));
+                }
+            }
+        }
+    }
+
+    // A range, or what one run leaves out, behind its opening bracket, with the cursor behind it.
+    fn range<K: Kind>(self) -> Result<(Token<'t>, Cursor<'t>), Stop>
+        ensures { MatchResult result (Behind self.entry (CompletesAs K.alphabet self.entry.text.now bracket 1 self.entry.place)) (λ stop. Stops K.alphabet self.entry.text.now bracket self.entry.place stop.place) }
+    {
+        match self.past(b'!') {
+            Some(later) => later.bounds::<K>(false),
+            None => self.bounds::<K>(true),
+        }
+    }
+
+    // The runs of a range, inside or not, behind what opens it, with the cursor behind the range.
+    fn bounds<K: Kind>(self, inside: bool) -> Result<(Token<'t>, Cursor<'t>), Stop>
+        ensures { MatchResult result (Behind self.entry (CompletesAs K.alphabet self.entry.text.now (low_run inside []) (opening inside) self.entry.place)) (λ stop. Stops K.alphabet self.entry.text.now (low_run inside []) self.entry.place stop.place) }
+    {
+        let (low, low_end) = self.run::<K>()?;
+        if !inside {
+            if let Some(later) = low_end.past(b']') {
+                return Ok((Token::Other(low), later));
+            }
+        }
+        let colon_end = low_end.end_run::<K>(b':')?;
+        let (high, high_end) = colon_end.run::<K>()?;
+        let later = high_end.end_run::<K>(b']')?;
+        Ok((Token::Range { inside, low, high }, later))
+    }
+
+    // A number of one to four digits, with the cursor behind it.
+    fn number(self) -> Result<(u16, Cursor<'t>), Stop>
+        ensures { MatchResult result (Behind self.entry (LongestNumber self.entry.text.now self.entry.place)) (λ stop. NoDigit self.entry.text.now self.entry.place × (stop.place ≡ self.entry.place)) }
+    {
+        let Cursor { text, place } = self;
+        let rest = &text[place..];
+        let digits = &rest[..digit_count(rest)];
+        if digits.is_empty() {
+            return Err(self.stop());
+        }
+        let mut value = 0;
+        for digit in digits {
+            value = value * 10 + u16::from(*digit - b'0');
+        }
+        let place = place + digits.len();
+        Ok((value, Cursor { text, place }))
+    }
+
+    // A gap behind its opening brace, with the cursor behind it.
+    fn braces<K: Kind>(self) -> Result<(Gap, Cursor<'t>), Stop>
+        ensures { MatchResult result (Behind self.entry (CompletesGap K.alphabet self.entry.text.now (digits lower 0 0) self.entry.place)) (λ stop. Stops K.alphabet self.entry.text.now (digits lower 0 0) self.entry.place stop.place) }
+    {
+        let (least, end) = self.number()?;
+        if let Some(upper) = end.past(b'-') {
+            return upper.upper_end::<K>(least);
+        }
+        let later = end.require(b'}')?;
+        let most = Some(least);
+        Ok((Gap { least, most }, later))
+    }
+
+    // A gap behind the dash after its least length, with the cursor behind it.
+    fn upper_end<K: Kind>(self, least: u16) -> Result<(Gap, Cursor<'t>), Stop>
+        ensures { MatchResult result (Behind self.entry (CompletesGap K.alphabet self.entry.text.now (digits (upper least) 0 0) self.entry.place)) (λ stop. Stops K.alphabet self.entry.text.now (digits (upper least) 0 0) self.entry.place stop.place) }
+    {
+        let (most, end) = if let Some(end) = self.past(b'*') {
+            (None, end)
+        } else {
+            let (most, end) = self.number()?;
+            (Some(most), end)
+        };
+        let later = end.require(b'}')?;
+        Ok((Gap { least, most }, later))
+    }
+
+    // A gap where one may stand, with the cursor behind it.
+    fn gap<K: Kind>(self, position: Position) -> Result<(Token<'t>, Cursor<'t>), Stop>
+        requires { (standing self.text.now self.place 42 ≡ true) ⊎ (standing self.text.now self.place 123 ≡ true) }
+        ensures { MatchResult result (Behind self.entry (Lexes K.alphabet self.entry.text.now (position_in position) self.entry.place)) (λ stop. Stops K.alphabet self.entry.text.now (between_items (position_in position)) self.entry.place stop.place) }
+    {
+        if !position.gap_allowed() {
+            return Err(self.stop());
+        }
+        let found = if let Some(later) = self.past(b'*') {
+            let most = None;
+            (Gap { least: 0, most }, later)
+        } else {
+            self.require(b'{')?.braces::<K>()?
+        };
+        let (gap, later) = found;
+        let spelling = self.text_to(later.place);
+        let place = self.place;
+        let token = Token::Gap {
+            spelling,
+            place,
+            gap,
+        };
+        Ok((token, later))
+    }
+
+    // The next token in a position, with the cursor behind it.
+    fn token<K: Kind>(self, position: Position) -> Result<(Token<'t>, Cursor<'t>), Stop>
+        ensures { MatchResult result (Behind self.entry (Lexes K.alphabet self.entry.text.now (position_in position) self.entry.place)) (λ stop. Stops K.alphabet self.entry.text.now (between_items (position_in position)) self.entry.place stop.place) }
+    {
+        let Some((first, behind)) = self.split_first() else {
+            return Err(self.stop());
+        };
+        match first {
+            b'?' => {
+                let later = behind.require(b'?')?;
+                Ok((Token::Any, later))
+            }
+            b'(' => {
+                let (runs, later) = behind.group::<K>()?;
+                Ok((Token::Group(runs), later))
+            }
+            b'[' => behind.range::<K>(),
+            b'*' | b'{' => self.gap::<K>(position),
+            _ => {
+                let (run, later) = self.run::<K>()?;
+                Ok((Token::Literals(run), later))
+            }
+        }
     }
 }

@@ -1,28 +1,33 @@
-// The engine: it reads pattern texts, compiles them, and searches readings.
+//! The engine: it reads pattern texts, compiles them, and searches readings.
 #![tactic(auto)]
 
-pub mod cause;
-mod context;
-mod cursor;
-pub mod fault;
+mod fault;
 mod find;
-pub mod fragment;
+mod fragment;
 mod lent;
-pub mod lexer;
-pub mod limits;
-pub mod mirror;
+mod lexer;
+mod limits;
+mod mirror;
 mod opening;
 mod oriented;
-pub mod pattern;
-pub mod pattern_text;
+mod pattern;
+mod pattern_text;
 mod reach;
-pub mod reader;
-pub mod scan;
+mod reader;
+mod scan;
 mod search;
-pub mod sequence;
+mod sequence;
 mod smaller;
 mod starts;
-mod step;
-pub mod table;
+mod table;
 pub mod theorems;
-pub mod token;
+mod token;
+
+pub use fault::{Cause, Fault, FaultLine};
+pub use fragment::{Fragment, INDICES};
+pub use lexer::{Lexer, Position, Stop};
+pub use pattern_text::{PatternText, TooLong};
+pub use patterns::Reference;
+pub use sequence::Sequence;
+pub use table::{InTable, SLOTS, Table};
+pub use token::{Gap, RunText, RunsText, Token};

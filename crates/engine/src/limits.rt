@@ -6,7 +6,7 @@ ghost use Rattle.engine.specs.Parts.{item_in, placed_in, HasPart};
 ghost use Rattle.engine.specs.Tallies.{single, joined, initial, closed, with_gap, with_thing, with_item, tallied};
 ghost use Rattle.patterns.specs.Fragments.{fragments, before, wrong};
 
-use crate::cause::Cause;
+use crate::fault::Cause;
 use crate::pattern::{Part, Pattern, PlacedPart};
 use crate::smaller::smaller;
 use patterns::Direction;

@@ -2,7 +2,7 @@
 ghost use Rattle.engine.specs.Reading.{held};
 ghost use Rattle.engine.specs.Searched.{Accepted};
 
-use crate::fault::{Failure, Fault};
+use crate::fault::Fault;
 use crate::pattern::Pattern;
 use crate::pattern_text::PatternText;
 use crate::reader::read;
@@ -25,17 +25,17 @@ impl Pattern {
     ghost use Rattle.patterns.specs.Fragments.{oriented};
 
     // A text's items, or its refusal.
-    fn of_text<K: Kind>(sequence: u8, text: PatternText) -> Result<Pattern, Failure>
+    fn of_text<K: Kind>(sequence: u8, text: PatternText) -> Result<Pattern, Fault>
         ensures { Checked K.alphabet text.entry.characters.now sequence result }
     {
         let pattern = read::<K>(sequence, text)?;
         match pattern.refusal() {
             None => Ok(pattern),
-            Some((cause, place)) => Err(Failure::Refused(Fault {
+            Some((cause, place)) => Err(Fault {
                 cause,
                 sequence,
                 place: usize::from(place),
-            })),
+            }),
         }
     }
 
@@ -51,7 +51,8 @@ impl Pattern {
 }
 
 impl Oriented {
-    ghost use Rattle.engine.specs.Sequences.{Compiled};
+    ghost use Rattle.std.specs.Prelude.{◌≡◌};
+    ghost use Rattle.engine.specs.Sequences.{compiled};
     ghost use Rattle.engine.specs.Said.{said_if};
 
     // A text's items in the order of their search, or the text's refusal.
@@ -59,8 +60,8 @@ impl Oriented {
         number: u8,
         reference: Reference,
         text: PatternText,
-    ) -> Result<Oriented, Failure>
-        ensures { Compiled K.alphabet text.entry.characters.now number reference (said_if result) }
+    ) -> Result<Oriented, Fault>
+        ensures { said_if result ≡ compiled K.alphabet number reference text.entry.characters.now }
     {
         let pattern = Pattern::of_text::<K>(number, text)?.in_order(reference);
         let mirror = pattern.mirrored();

@@ -1,62 +1,146 @@
 // Reads a pattern text into its items.
-ghost use Rattle.std.specs.Prelude.{◌≡◌};
-ghost use Rattle.engine.specs.Reading.{Read};
+ghost use Rattle.std.specs.Prelude.{◌≡◌, ◌+◌, ◌*◌, ◌<◌, ◌≤◌, ◌++◌, length};
+ghost use Rattle.engine.specs.Meanings.{items_at, literals_at, runs_in, run_count};
+ghost use Rattle.engine.specs.Parts.{run_in, item_in, HasPart, HasRun, PartPushed};
+ghost use Rattle.engine.specs.Reading.{held, Read};
+ghost use Rattle.engine.specs.Tokens.{between_bars, codes_in, lexeme_in, pairs, written};
+ghost use Rattle.patterns.specs.Patterns as item;
 
-use crate::cause::Cause;
-use crate::context::Context;
-use crate::fault::{Failure, Fault};
-use crate::lexer::Lexer;
-use crate::pattern::{Pattern, PlacedPart};
+use crate::fault::{Cause, Fault};
+use crate::lexer::{Lexer, Stop};
+use crate::pattern::{Part, Pattern, PlacedPart, Run};
 use crate::pattern_text::PatternText;
-use crate::step::{Step, advance};
+use crate::token::{Cursor, Gap, RunsText, Token};
 use kinds::Kind;
+use patterns::Direction;
 
-// The refusal of a text at a place.
-fn refusal(sequence: u8, place: usize) -> Failure
-    ensures { result ≡ Failure.Refused (record { cause = Cause.Grammar; sequence = sequence; place = place }) }
-{
-    Failure::Refused(Fault {
-        cause: Cause::Grammar,
-        sequence,
-        place,
-    })
+// The items of tokens, put behind those of a pattern. A text has at most 200 characters, two for each code.
+impl Pattern {
+    // Puts the codes of a run behind the others.
+    fn push_codes<K: Kind>(&mut self, run: &[u8]) -> Run
+        requires { 2 * length self.old.codes.items + length run.now ≤ 200 }
+        ensures codes { self.new.codes.items ≡ self.old.codes.items ++ codes_in K.alphabet run.now }
+        ensures runs { self.new.runs.items ≡ self.old.runs.items }
+        ensures items { held self.new ≡ held self.old }
+        ensures run { run_in self.new result ≡ codes_in K.alphabet run.now }
+        ensures within { HasRun self.new result }
+    {
+        let start = self.codes.len() as u8;
+        let mut next = Cursor::new(run);
+        while let Some((element, later)) = next.pair::<K>() {
+            self.push_code(element.code());
+            next = later;
+        }
+        self.run_from(start)
+    }
+
+    // Puts the runs of a group behind the others.
+    fn push_group<K: Kind>(&mut self, group: RunsText) -> Part
+        requires codes { 2 * length self.old.codes.items + length group.text.now ≤ 200 }
+        requires runs { length self.old.runs.items + length (between_bars group.text.now) ≤ 66 }
+        ensures codes { 2 * length self.new.codes.items ≤ 2 * length self.old.codes.items + length group.entry.text.now }
+        ensures runs { length self.new.runs.items ≡ length self.old.runs.items + length (between_bars group.entry.text.now) }
+        ensures items { held self.new ≡ held self.old }
+        ensures part { item_in self.new result ≡ item.group (runs_in K.alphabet group.entry.text.now) }
+        ensures within { HasPart self.new result }
+    {
+        let first = self.runs.len() as u8;
+        let mut rest = Some(group);
+        while let Some(runs) = rest {
+            let (run, later) = runs.first_and_rest();
+            let run = self.push_codes::<K>(run.text);
+            self.push_run(run);
+            rest = later;
+        }
+        let count = self.runs.len() as u8 - first;
+        Part::Group { first, count }
+    }
+
+    // Puts neighbouring literals, which begin at a place, behind the other items.
+    fn push_literals<K: Kind>(&mut self, place: usize, run: &[u8])
+        requires parts { length (held self.old) + pairs K.alphabet run.now ≤ 199 }
+        requires place { place + length run.now ≤ 200 }
+        ensures codes { self.new.codes.items ≡ self.old.codes.items }
+        ensures runs { self.new.runs.items ≡ self.old.runs.items }
+        ensures items { held self.new ≡ held self.old ++ literals_at place (codes_in K.alphabet run.now) }
+    {
+        let mut next = Cursor::new(run);
+        while let Some((element, later)) = next.pair::<K>() {
+            let part = Part::Literal(element.code());
+            self.push_at(place + next.place, part);
+            next = later;
+        }
+    }
+
+    // Puts an item behind the others.
+    fn push_at(&mut self, place: usize, part: Part)
+        requires parts { length (held self.old) < 199 }
+        requires place { place ≤ 200 }
+        requires within { HasPart self.old part }
+        ensures { PartPushed self.old (record { place = place; part = part }) self.new }
+    {
+        let place = place as u8;
+        self.push_part(PlacedPart { place, part });
+    }
+
+    // Puts the items of a token that begins at a place behind the others.
+    fn push_token<K: Kind>(&mut self, place: usize, token: Token)
+        requires parts { length (held self.old) + length (items_at K.alphabet place (lexeme_in token)) ≤ 199 }
+        requires codes { 2 * length self.old.codes.items + length (written (lexeme_in token)) ≤ 200 }
+        requires runs { length self.old.runs.items + run_count (lexeme_in token) ≤ 66 }
+        requires place { place + length (written (lexeme_in token)) ≤ 200 }
+        ensures codes { 2 * length self.new.codes.items ≤ 2 * length self.old.codes.items + length (written (lexeme_in token.entry)) }
+        ensures runs { length self.new.runs.items ≡ length self.old.runs.items + run_count (lexeme_in token.entry) }
+        ensures items { held self.new ≡ held self.old ++ items_at K.alphabet place (lexeme_in token.entry) }
+    {
+        match token {
+            Token::Literals(run) => self.push_literals::<K>(place, run.text),
+            Token::Any => self.push_at(place, Part::Any),
+            Token::Group(runs) => {
+                let part = self.push_group::<K>(runs);
+                self.push_at(place, part);
+            }
+            Token::Range { inside, low, high } => {
+                let direction = Direction::FirstOn;
+                let low = self.push_codes::<K>(low.text);
+                let high = self.push_codes::<K>(high.text);
+                self.push_at(place, Part::Range { direction, inside, low, high });
+            }
+            Token::Other(run) => {
+                let run = self.push_codes::<K>(run.text);
+                self.push_at(place, Part::Other(run));
+            }
+            Token::Gap { gap, .. } => {
+                let Gap { least, most } = gap;
+                self.push_at(place, Part::Gap { least, most });
+            }
+        }
+    }
 }
 
-// Reads a pattern text into its items. The number of its sequence goes with it for a refusal alone.
-pub fn read<K: Kind>(sequence: u8, text: PatternText) -> Result<Pattern, Failure>
+// The refusal of a text where it cannot be read on.
+fn refusal(sequence: u8, stop: Stop) -> Fault
+    ensures { result ≡ record { cause = Cause.Grammar; sequence = sequence; place = stop.place } }
+{
+    Fault {
+        cause: Cause::Grammar,
+        sequence,
+        place: stop.place,
+    }
+}
+
+/// Reads a pattern text into its items. The number of its sequence goes with it for a refusal alone.
+pub(crate) fn read<K: Kind>(sequence: u8, text: PatternText) -> Result<Pattern, Fault>
     ensures { Read K.alphabet text.entry.characters.now sequence result }
 {
     let mut pattern = Pattern::new();
     let mut lexer = Lexer::new(text.characters);
-    let mut context = Context::Start;
-    let mut from = 0;
     loop {
         let place = lexer.place();
-        let next = lexer
-            .next::<K>(context.expects())
-            .map_err(|stop| refusal(sequence, stop.place))?;
-        let Some(token) = next else {
-            return if context.may_end() {
-                Ok(pattern)
-            } else {
-                Err(refusal(sequence, place))
-            };
-        };
-        match advance(&mut pattern, context, token)? {
-            Step::Stuck => return Err(refusal(sequence, place)),
-            Step::Within(later) => context = later,
-            Step::Complete(part) => {
-                if pattern.parts.is_full() {
-                    return Err(Failure::Memory);
-                }
-                if from > 255 {
-                    return Err(Failure::Memory);
-                }
-                let place = from as u8;
-                pattern.push_part(PlacedPart { place, part });
-                context = Context::behind(part);
-                from = lexer.place();
-            }
+        match lexer.next::<K>() {
+            Ok(Some(token)) => pattern.push_token::<K>(place, token),
+            Ok(None) => return Ok(pattern),
+            Err(stop) => return Err(refusal(sequence, stop)),
         }
     }
 }

@@ -2,7 +2,7 @@
 ghost use Rattle.std.specs.Prelude.{◌≡◌, ◌↔◌, IsTrue, length};
 ghost use Rattle.engine.specs.Codes.{codes_of};
 
-use crate::fault::Failure;
+use crate::fault::Fault;
 use crate::fragment::Fragment;
 use crate::limits::MOST_FRAGMENTS;
 use crate::oriented::Oriented;
@@ -52,7 +52,7 @@ impl Fragments for Own<'_> {
 
 impl<K: Kind> Sequence<K> {
     ghost use Rattle.engine.specs.Said.{hits_in, PlacementIn};
-    ghost use Rattle.engine.specs.Sequences.{Compiled, parts_said, shown};
+    ghost use Rattle.engine.specs.Sequences.{compiled, parts_said, shown};
 
     /// Compiles a pattern text for its search, or refuses it (docs/PATTERNS.md, "Refusals"). The
     /// number of the sequence, from 1, goes into the refusal alone.
@@ -60,8 +60,8 @@ impl<K: Kind> Sequence<K> {
         number: u8,
         reference: Reference,
         text: PatternText,
-    ) -> Result<Sequence<K>, Failure>
-        ensures { Compiled K.alphabet text.entry.characters.now number reference result }
+    ) -> Result<Sequence<K>, Fault>
+        ensures { result ≡ compiled K.alphabet number reference text.entry.characters.now }
     {
         let oriented = Oriented::of_text::<K>(number, reference, text)?;
         let least = reference.least_offset();

@@ -1,62 +1,51 @@
-// The tokens of a pattern text, and what a reader expects next.
+// The tokens of a pattern text, and the places between them.
+ghost use Rattle.std.specs.Prelude.{◌+◌, ◌^◌, ◌<◌, ◌≤◌, length};
 
-// A single character that shapes a thing: ( | ) [ ! : ]
-#[derive(Clone, Copy, PartialEq, Eq, Debug)]
-pub enum Punctuation {
-    OpenGroup,
-    Bar,
-    CloseGroup,
-    OpenRange,
-    Except,
-    Colon,
-    CloseRange,
+// A lent text at a place of it, which may be its end.
+#[derive(Clone, Copy)]
+pub(crate) struct Cursor<'t> {
+    pub(crate) text: &'t [u8],
+    pub(crate) place: usize,
+    ghost inside: { place ≤ length text.now },
 }
 
-// A gap: its least length, and its greatest where it has one.
+/// A gap: its least length, and its greatest where it has one.
 #[derive(Clone, Copy, PartialEq, Eq, Debug)]
 pub struct Gap {
     pub least: u16,
     pub most: Option<u16>,
 }
 
-// A token. A literal holds the part of the text that is its pair, the place where it stands, and the code of the element
-// that the pair names.
+/// A run of literals: its pairs, as they stand in the text, and the place where they begin.
+#[derive(Clone, Copy, Debug)]
+pub struct RunText<'t> {
+    pub text: &'t [u8],
+    pub place: usize,
+}
+
+/// The runs of a group, as they stand between its parentheses, and the place where they begin.
+#[derive(Clone, Copy, Debug)]
+pub struct RunsText<'t> {
+    pub text: &'t [u8],
+    pub place: usize,
+    ghost fits: { place + length text.now < 2 ^ 64 },
+}
+
+/// A token: neighbouring literals, or one other item of a pattern, with the parts of the text that it takes.
 #[derive(Clone, Copy)]
 pub enum Token<'t> {
-    Literal {
-        pair: &'t [u8],
-        place: usize,
-        code: u16,
-    },
+    Literals(RunText<'t>),
     Any,
-    Mark(Punctuation),
-    Gap(Gap),
-}
-
-// What may come next, besides a literal, which may come anywhere.
-#[derive(Clone, Copy, PartialEq, Eq, Debug)]
-pub enum Expects {
-    // A thing, at the start of a text.
-    Thing,
-    // A thing or a gap.
-    Item,
-    // What stands in a group: a bar, the end.
-    Alternative,
-    // What stands behind an opening bracket: an exclamation mark.
-    Range,
-    // What stands behind the first run of a range: a colon, the end.
-    Low,
-    // What stands behind its second run: the end.
-    High,
-}
-
-// What a character begins where something is expected.
-#[derive(Clone, Copy, PartialEq, Eq, Debug)]
-pub enum Class {
-    Mark(Punctuation),
-    Question,
-    Star,
-    Brace,
-    Pair,
-    Misplaced,
+    Group(RunsText<'t>),
+    Range {
+        inside: bool,
+        low: RunText<'t>,
+        high: RunText<'t>,
+    },
+    Other(RunText<'t>),
+    Gap {
+        spelling: &'t [u8],
+        place: usize,
+        gap: Gap,
+    },
 }

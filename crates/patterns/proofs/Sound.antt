@@ -240,6 +240,14 @@ module _ {E : Type 0} (a : Alphabet E) where
   reads_rest (ends d) = rest_ends d
   reads_rest (more {t = t} {i = i} g r) = rest_more t i g (reads_rest r)
 
+  -- so what is read between items says its item
+  pub reads_says : {p : Position} {t : List ℕ} {i : Item} → Reads a (between p) t i → Says a i t
+  reads_says r = (reads_rest r).1
+
+  -- which may stand there
+  pub reads_allowed : {p : Position} {t : List ℕ} {i : Item} → Reads a (between p) t i → allowed p i ≡ true
+  reads_allowed r = (reads_rest r).0
+
   -- the items that the reader reads are in order, and the text says them
   follow_sound : (qs : List Placed) (p : Position) (place : ℕ) (t : List ℕ) → follow a (between p) place place t ≡ Ok qs
       → Ordered p qs × SaysAll a place qs t

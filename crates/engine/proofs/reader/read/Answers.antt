@@ -1,56 +1,97 @@
-use Rattle.std.proofs.Common.{Err, sym, refl, ap, ◌∙◌, subst}
-use Rattle.engine.specs.Contexts.{context_behind, expects_in, ContextWithin, StepLiesWithin}
-use Rattle.engine.specs.Reading.{Read}
-use Rattle.engine.specs.Tokens.{ReadsToken, Lexed}
-use Rattle.engine.proofs.Items.{SoFar, stuck_there, goes_within, completes, lexed_token, ok_before, behind_within}
-use Rattle.engine.proofs.reader.read.Given as given
+use Rattle.std.proofs.Common.{◌≡◌, ◌+◌, ◌++◌, length, drop, Some, None, Ok, Err, sym, refl, ap, ◌∙◌, subst, append-nil, arith}
+use Rattle.patterns.specs.Grammar.{start}
+use Rattle.engine.specs.Reading.{held, Read}
+use Rattle.engine.specs.Tokens.{Lexeme, lexed, lexeme_in, position_in, written}
+use Rattle.engine.proofs.Meanings.{Means, ReadSoFar, prepended, token_means, end_follows, stop_follows, read_none, token_inside, room, read_more}
 use Rattle.engine.proofs.reader.read.Goals as goal
-use Rattle.engine.proofs.reader.read.Goals.{In-Some}
 
--- the token that was read
-read : (g : given.Over) (c : In-Some g) → ReadsToken g.K.Kind.alphabet c.args.text.characters.now (expects_in c.loop-next.context) c.loop-next.lexer.at.place c.in-Some.token c.next.new.self.at.place
-read g c =
+pub loop-token-init : goal.loop-token-init
+loop-token-init g c =
     let a = g.K.Kind.alphabet in
-    let l = c.loop-next in
-    let later = c.next.new.self.at.place in
-    let answered = subst (λ r. Lexed a l.lexer.at.text.now c.expects.result l.lexer.at.place r later) (ok_before c.next.result c.map_err.result c.in_ok-next.next _ c.map_err.ensures.cases c.map_err.ensures.variant c.in_ok-next.was) c.next.ensures.token in
-    lexed_token a l.invariant.0 c.expects.ensures l.lexer.at.place later c.in-Some.is answered
-
-pub returns-in-Stuck : goal.returns-in-Stuck
-returns-in-Stuck g c =
-    let a = g.K.Kind.alphabet in
+    let law = g.met.K.Kind.lawful in
     let t = c.args.text.characters.now in
-    let l = c.loop-next in
-    let later = c.next.new.self.at.place in
-    let refused = stuck_there a t l.pattern l.context l.from l.lexer.at.place l.invariant.2 g.met.K.Kind.lawful c.in-Some.token later (read g (goal.at.returns-in-Stuck g c).In-Some) c.advance.new.pattern c.in_ok-advance.field-0 c.in_ok-advance.ensures c.in-Stuck.is in
-    subst (λ f. Read a t c.args.sequence (Err f)) (sym c.refusal-in-Stuck.ensures) (refused ∙ ap Err (sym c.place-place.ensures), refl, refl)
-
-pub loop-next-preserved-in-Within : goal.loop-next-preserved-in-Within
-loop-next-preserved-in-Within g c =
-    let a = g.K.Kind.alphabet in
-    let t = c.args.text.characters.now in
-    let l = c.loop-next in
-    let later = c.next.new.self.at.place in
-    let after = c.advance.new.pattern in
-    let to = c.in_ok-advance.ensures in
-    let token = read g (goal.at.loop-next-preserved-in-Within g c).In-Some in (
-      c.next.ensures.same_text ∙ l.invariant.0,
-      subst (StepLiesWithin after.codes.items after.runs.items) c.in-Within.is to.within,
-      goes_within a t l.pattern l.context l.from l.lexer.at.place l.invariant.2 g.met.K.Kind.lawful c.in-Some.token later token after c.in_ok-advance.field-0 to c.in-Within.later c.in-Within.is,
+    let none = read_none a law t c.new-pattern.result c.new-pattern.ensures.codes c.new-pattern.ensures.runs c.new-pattern.ensures.items in (
+      c.new-lexer.ensures.text,
+      subst (λ p. ReadSoFar a law t c.new-pattern.result p c.new-lexer.result.at.place) (ap position_in (sym c.new-lexer.ensures.position))
+          (subst (ReadSoFar a law t c.new-pattern.result start) (sym c.new-lexer.ensures.place) none),
     )
 
-pub loop-next-preserved : goal.loop-next-preserved
-loop-next-preserved g c =
+pub push_token-requires : goal.push_token-requires
+push_token-requires g c =
+    let a = g.K.Kind.alphabet in
+    let law = g.met.K.Kind.lawful in
+    let t = c.args.text.characters.now in
+    let l = c.loop-token in
+    let at = l.lexer.at in
+    let p = position_in l.lexer.position in
+    let x = lexeme_in c.in-Ok-Some.token in
+    let later = c.next.new.self.at.place in
+    let answer = rw c.in-Ok-Some.field-0-is at c.in-Ok-Some.ensures.answer in
+    let cut = rw c.in-Ok-Some.field-0-is at c.in-Ok-Some.ensures.written in
+    let moves = rw c.in-Ok-Some.field-0-is at c.in-Ok-Some.ensures.moves in
+    let means = token_means a law t p at.place x (sym (subst (λ l. Ok (Some x) ≡ lexed a l p at.place) l.invariant.0 answer)) in
+    let ahead = subst (λ l. drop at.place l ≡ written x ++ drop later l) l.invariant.0 cut in
+    let fits = room a law t l.pattern p at.place later x l.invariant.1 means ahead moves c.args.text.short in
+    let here = c.place-place.ensures in
+    record { parts = rw here fits.parts; codes = fits.codes; runs = fits.runs; place = rw here fits.place_fits }
+
+pub loop-token-smaller : goal.loop-token-smaller
+loop-token-smaller g c =
+    let a = g.K.Kind.alphabet in
+    let law = g.met.K.Kind.lawful in
+    let t = c.args.text.characters.now in
+    let l = c.loop-token in
+    let at = l.lexer.at in
+    let p = position_in l.lexer.position in
+    let x = lexeme_in c.in-Ok-Some.token in
+    let later = c.next.new.self.at.place in
+    let answer = rw c.in-Ok-Some.field-0-is at c.in-Ok-Some.ensures.answer in
+    let cut = rw c.in-Ok-Some.field-0-is at c.in-Ok-Some.ensures.written in
+    let moves = rw c.in-Ok-Some.field-0-is at c.in-Ok-Some.ensures.moves in
+    let means = token_means a law t p at.place x (sym (subst (λ l. Ok (Some x) ≡ lexed a l p at.place) l.invariant.0 answer)) in
+    let ahead = subst (λ l. drop at.place l ≡ written x ++ drop later l) l.invariant.0 cut in
+    let inside = token_inside a law t l.pattern p at.place later x l.invariant.1 means ahead moves in
+    omega (arith, inside, moves, means.some)
+
+pub loop-token-preserved : goal.loop-token-preserved
+loop-token-preserved g c =
+    let a = g.K.Kind.alphabet in
+    let law = g.met.K.Kind.lawful in
+    let t = c.args.text.characters.now in
+    let l = c.loop-token in
+    let at = l.lexer.at in
+    let p = position_in l.lexer.position in
+    let x = lexeme_in c.in-Ok-Some.token in
+    let later = c.next.new.self.at.place in
+    let answer = rw c.in-Ok-Some.field-0-is at c.in-Ok-Some.ensures.answer in
+    let cut = rw c.in-Ok-Some.field-0-is at c.in-Ok-Some.ensures.written in
+    let moves = rw c.in-Ok-Some.field-0-is at c.in-Ok-Some.ensures.moves in
+    let position = rw c.in-Ok-Some.field-0-is at c.in-Ok-Some.ensures.position in
+    let means = token_means a law t p at.place x (sym (subst (λ l. Ok (Some x) ≡ lexed a l p at.place) l.invariant.0 answer)) in
+    let ahead = subst (λ l. drop at.place l ≡ written x ++ drop later l) l.invariant.0 cut in
+    let items = rw c.place-place.ensures at c.push_token.ensures.items in (
+      c.next.ensures.same_text ∙ l.invariant.0,
+      read_more a law t l.pattern p at.place later x l.invariant.1 means ahead moves c.push_token.new.self (position_in c.next.new.self.position) c.push_token.ensures.codes c.push_token.ensures.runs items position,
+    )
+
+pub returns-in-Ok-None : goal.returns-in-Ok-None
+returns-in-Ok-None g c =
     let a = g.K.Kind.alphabet in
     let t = c.args.text.characters.now in
-    let l = c.loop-next in
-    let later = c.next.new.self.at.place in
-    let last = c.push_part.new.self in
-    let item = c.in-Complete.part in
-    let token = read g (goal.at.loop-next-preserved g c).In-Some in
-    let so_far = completes a t l.pattern l.context l.from l.lexer.at.place l.invariant.2 g.met.K.Kind.lawful c.in-Some.token later token c.advance.new.pattern c.in_ok-advance.field-0 c.in_ok-advance.ensures item c.in-Complete.is last c.push_part.ensures in (
-      c.next.ensures.same_text ∙ l.invariant.0,
-      subst (ContextWithin last) (sym c.behind-context.ensures) (behind_within last item),
-      subst (λ k. SoFar a t last k c.place-from.result later) (sym c.behind-context.ensures)
-          (subst (λ n. SoFar a t last (context_behind item) n later) (sym c.place-from.ensures) so_far),
-    )
+    let l = c.loop-token in
+    let at = l.lexer.at in
+    let p = position_in l.lexer.position in
+    let answer = rw c.in-Ok-None.field-0-is at c.in-Ok-None.ensures.answer in
+    let end = end_follows a g.met.K.Kind.lawful t p at.place (sym (subst (λ l. Ok None ≡ lexed a l p at.place) l.invariant.0 answer)) in
+    l.invariant.1.follows ∙ ap (prepended (held l.pattern)) end ∙ ap Ok (append-nil (held l.pattern))
+
+pub returns-in-Err : goal.returns-in-Err
+returns-in-Err g c =
+    let a = g.K.Kind.alphabet in
+    let t = c.args.text.characters.now in
+    let l = c.loop-token in
+    let at = l.lexer.at in
+    let p = position_in l.lexer.position in
+    let answer = c.in-Err.ensures.answer in
+    let stop = stop_follows a g.met.K.Kind.lawful t p at.place c.in-Err.stop.place (sym (subst (λ l. Err c.in-Err.stop.place ≡ lexed a l p at.place) l.invariant.0 answer)) in
+    subst (λ f. Read a t c.args.sequence (Err f)) (sym c.refusal.ensures) (l.invariant.1.follows ∙ ap (prepended (held l.pattern)) stop, refl, refl)

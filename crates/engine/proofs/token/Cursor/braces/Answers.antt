@@ -4,9 +4,9 @@ use Rattle.std.proofs.lemmas.Result.{MatchResult-weaker, err_from_is_err_and}
 use Rattle.patterns.specs.Patterns.{gap}
 use Rattle.patterns.specs.Reader.{digits}
 use Rattle.patterns.specs.Reader.{least as lower, most as upper}
-use Rattle.engine.specs.Tokens.{Completes, Stops}
-use Rattle.engine.proofs.Gaps.{least_stops, one_number, dash_completes, dash_stops}
-use Rattle.engine.proofs.cursor.Cursor.gap.Goals as goal
+use Rattle.engine.specs.Scanning.{Stops}
+use Rattle.engine.proofs.Gaps.{CompletesAt, least_stops, one_number, dash_completes, dash_stops}
+use Rattle.engine.proofs.token.Cursor.braces.Goals as goal
 
 pub returns-in-Some : goal.returns-in-Some
 returns-in-Some g c =
@@ -21,7 +21,7 @@ returns-in-Some g c =
     MatchResult-weaker c.upper_end.result c.upper_end.ensures
     (λ x h. (
       h.0 ∙ same,
-      dash_completes a t c.args.self.place number found.1 _ _ dash (subst₂ (λ l n. Completes a l upper_end n (gap x.0.least x.0.most) x.1.place) same at h.1),
+      dash_completes a t c.args.self.place number found.1 _ _ dash (subst₂ (λ l n. CompletesAt a l upper_end n (gap x.0.least x.0.most) x.1.place) same at h.1),
     ))
     (λ stop h. dash_stops a t c.args.self.place number found.1 stop.place dash (subst₂ (λ l n. Stops a l upper_end n stop.place) same at h))
 
@@ -37,4 +37,4 @@ pub returns : goal.returns
 returns g c =
     let found = c.in_ok-least.ensures in
     let h = rw found.0 at c.in_ok-later.ensures in
-    (h.1, subst (Completes g.K.Kind.alphabet c.args.self.text.now (digits lower 0 0) c.args.self.place (gap c.in_ok-least.least (Some c.in_ok-least.least))) (sym h.2) (one_number g.K.Kind.alphabet c.args.self.text.now c.args.self.place (c.in_ok-least.least, c.in_ok-least.end.place) found.1 h.0))
+    (h.1, subst (CompletesAt g.K.Kind.alphabet c.args.self.text.now (digits lower 0 0) c.args.self.place (gap c.in_ok-least.least (Some c.in_ok-least.least))) (sym h.2) (one_number g.K.Kind.alphabet c.args.self.text.now c.args.self.place (c.in_ok-least.least, c.in_ok-least.end.place) found.1 h.0))

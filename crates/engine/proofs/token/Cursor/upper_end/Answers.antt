@@ -3,12 +3,12 @@ use Rattle.std.proofs.lemmas.Result.{err_from_is_err_and}
 use Rattle.patterns.specs.Patterns.{gap}
 use Rattle.patterns.specs.Reader.{digits}
 use Rattle.patterns.specs.Reader.{most as upper}
-use Rattle.engine.specs.Tokens.{Completes, Stops}
-use Rattle.engine.specs.declared.cursor.Cursor.{Cursor}
-use Rattle.engine.proofs.Gaps.{UpperEnd, star_end, number_end}
-use Rattle.engine.proofs.cursor.Cursor.upper_end.Given as given
-use Rattle.engine.proofs.cursor.Cursor.upper_end.Goals as goal
-use Rattle.engine.proofs.cursor.Cursor.upper_end.Goals.{Joined-past, in-Some, in_default+in_ok-most}
+use Rattle.engine.specs.Scanning.{Stops}
+use Rattle.engine.specs.declared.token.Cursor.{Cursor}
+use Rattle.engine.proofs.Gaps.{CompletesAt, UpperEnd, star_end, number_end}
+use Rattle.engine.proofs.token.Cursor.upper_end.Given as given
+use Rattle.engine.proofs.token.Cursor.upper_end.Goals as goal
+use Rattle.engine.proofs.token.Cursor.upper_end.Goals.{Joined-past, in-Some, in_default+in_ok-most}
 
 -- the upper end, a star or a number, whichever stood there, with the cursor behind it
 found : (g : given.Over) (c : Joined-past g) → (c.match-past.most.1.text.now ≡ c.args.self.text.now) × UpperEnd g.K.Kind.alphabet c.args.self.text.now c.args.least c.args.self.place (c.match-past.most.0, c.match-past.most.1.place)
@@ -39,4 +39,4 @@ pub returns : goal.returns
 returns g c =
     let end = found g (goal.at.returns g c).Joined-past in
     let h = rw end.0 at c.in_ok-later.ensures in
-    (h.1, subst (Completes g.K.Kind.alphabet c.args.self.text.now (digits (upper c.args.least) 0 0) c.args.self.place (gap c.args.least c.match-past.most.0)) (sym h.2) (end.1.brace h.0))
+    (h.1, subst (CompletesAt g.K.Kind.alphabet c.args.self.text.now (digits (upper c.args.least) 0 0) c.args.self.place (gap c.args.least c.match-past.most.0)) (sym h.2) (end.1.brace h.0))

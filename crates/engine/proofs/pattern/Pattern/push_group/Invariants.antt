@@ -1,0 +1,11 @@
+use Rattle.std.proofs.Common.{length}
+use Rattle.engine.proofs.Groups.{Grouped, left_of}
+use Rattle.engine.specs.Tokens.{between_bars}
+use Rattle.engine.proofs.pattern.Pattern.push_group.Given as goal
+
+-- the runs that were put there and those that are left are the group's
+abbrev pub invariant-loop-rest : goal.invariant-loop-rest
+invariant-loop-rest g l = Grouped g.K.Kind.alphabet l.initial.self l.self (between_bars l.group.text.now) (left_of l.rest)
+
+abbrev pub decreases-loop-rest : goal.decreases-loop-rest
+decreases-loop-rest g l = length (left_of l.rest)

@@ -51,8 +51,8 @@ module _ {E : Type 0} (a : Alphabet E) where
       let Here : List ℕ → Type 0 = λ u. item_from a s place u ≡ Err (pair_stop a place u) in
       ⊎_elim
       (λ h.
-          let cut = drop_more t place 0 h in
-          subst Here (sym cut) (no_pair_here s (get_or t place 0) place (drop (place + 1) t) (rw cut at none) (sign h)))
+      let cut = drop_more t place 0 h in
+      subst Here (sym cut) (no_pair_here s (get_or t place 0) place (drop (place + 1) t) (rw cut at none) (sign h)))
       (λ h. subst Here (sym (drop_all place t h)) refl)
       (cases_lt place (length t))
 
@@ -306,13 +306,13 @@ module _ {E : Type 0} (a : Alphabet E) where
       bracket_inside place none =
           ⊎_elim
           (λ h.
-              let c = get_or t place 0 in
-              let rest = drop (place + 1) t in
-              step a t bracket place h
-              ∙ ap (λ n. onward a n place rest) (cond-false (eqb c 33) _ _ (stands_false t place 33 none h))
-              ∙ same_pair c place rest (leads a c)
-              ∙ ap (λ n. onward a n place rest) (sym (low_sign true [] c (λ _. refl) (λ _. refl)))
-              ∙ sym (step a t (low true []) place h))
+          let c = get_or t place 0 in
+          let rest = drop (place + 1) t in
+          step a t bracket place h
+          ∙ ap (λ n. onward a n place rest) (cond-false (eqb c 33) _ _ (stands_false t place 33 none h))
+          ∙ same_pair c place rest (leads a c)
+          ∙ ap (λ n. onward a n place rest) (sym (low_sign true [] c (λ _. refl) (λ _. refl)))
+          ∙ sym (step a t (low true []) place h))
           (λ h. ap (item_from a bracket place) (drop_all place t h) ∙ sym (ap (item_from a (low true []) place) (drop_all place t h)))
           (cases_lt place (length t))
         where
@@ -383,8 +383,8 @@ module _ {E : Type 0} (a : Alphabet E) where
                     let on : place + 1 + 1 ≡ place + 2 = omega arith in (
                       a.code x,
                       ap (λ n. onward a n place (s ∷ rest)) (goes_next a law (Steps.first (between p) f refl (pair_leads a law f s x e)))
-                      ∙ ap (λ n. onward a n (place + 1) rest) (done_next a law (Steps.pair p f s x e))
-                      ∙ ap (λ n. Ok (literal (a.code x), n)) on,
+                          ∙ ap (λ n. onward a n (place + 1) rest) (done_next a law (Steps.pair p f s x e))
+                          ∙ ap (λ n. Ok (literal (a.code x), n)) on,
                     )
 
         -- where a literal has to stand and none does

@@ -30,4 +30,6 @@ pub mod Shows
 pub mod Smallest
 pub mod Sounds
 pub mod Tallies
+pub mod Texts
 pub mod Tokens
+pub mod Vectors

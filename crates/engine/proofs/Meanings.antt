@@ -58,6 +58,12 @@ gap_behind start h = absurd (grind arith)
 gap_behind after_thing h = refl
 gap_behind after_gap h = refl
 
+-- one token is one
+pub same_token : (x y : Lexeme) → ◌≡◌ {A = Result (Option Lexeme) ℕ} (Ok (Some x)) (Ok (Some y)) → x ≡ y
+same_token x y e =
+    let value : Result (Option Lexeme) ℕ → Lexeme = λ r. elim r [ Ok o ↦ elim o [ Some z ↦ z | None ↦ x ] | Err _ ↦ x ] in
+    ap value e
+
 -- what is refused is refused at one place
 refused : (m n : ℕ) → ◌≡◌ {A = Result (Item × ℕ) ℕ} (Err m) (Err n) → m ≡ n
 refused m n e = cc
@@ -314,12 +320,6 @@ module _ {E : Type 0} (a : Alphabet E) where
       completes_means (item.range d inside low high) to e = thing (item.range d inside low high) to (λ c h. cc) e
       completes_means (item.other run) to e = thing (item.other run) to (λ c h. cc) e
       completes_means (item.gap least most) to e = thing (item.gap least most) to (λ c h. cc) e
-
-      -- one token is one
-      same_token : (x y : Lexeme) → ◌≡◌ {A = Result (Option Lexeme) ℕ} (Ok (Some x)) (Ok (Some y)) → x ≡ y
-      same_token x y e =
-          let value : Result (Option Lexeme) ℕ → Lexeme = λ r. elim r [ Ok o ↦ elim o [ Some z ↦ z | None ↦ x ] | Err _ ↦ x ] in
-          ap value e
 
       -- what the lexer's definition says of the reader's: a token
       pub token_means : (x : Lexeme) → lexed a t p place ≡ Ok (Some x) → Means x

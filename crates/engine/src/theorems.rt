@@ -1,9 +1,21 @@
 // Theorems about the definitions, each the contract of a function, so that the check asks for its proof.
+ghost use Rattle.std.specs.Prelude.{◌≡◌, true};
 ghost use Rattle.engine.specs.Examples.{Examples};
+ghost use Rattle.engine.specs.Tokens.{TokensAreTheText};
+
+use kinds::kind::Kind;
 
 // The worked examples.
 pub fn examples() -> bool
     ensures { Examples }
+{
+    true
+}
+
+// A text that is read has tokens, and as they are written they are the text.
+pub fn tokens_are_the_text<K: Kind>() -> bool
+    ensures tokens { TokensAreTheText K.alphabet }
+    ensures answer { result ≡ true }
 {
     true
 }

@@ -6,10 +6,10 @@ use Rattle.std.specs.List.{flat_map}
 use Rattle.kinds.specs.Alphabet.{Alphabet, Lawful}
 use Rattle.kinds.specs.Grammar.{Placed, Position, start, may_end}
 use Rattle.kinds.specs.Patterns.{Item}
-use Rattle.kinds.specs.Reader.{between, follow, items_of}
-use Rattle.engine.specs.Tokens.{Lexeme, written, behind_lexeme, item_from, lexeme_at, lexeme_of, lexed, token_before, tokens_from, tokens_of, TokensAreTheText}
+use Rattle.kinds.specs.Reader.{between, follow}
+use Rattle.engine.specs.Tokens.{Lexeme, written, behind_lexeme, item_from, lexeme_at, lexeme_of, lexed, token_before, tokens_from, TokensAreTheText}
 use Rattle.engine.proofs.Meanings.{prepended, same_token, token_means, stop_follows}
-use Rattle.engine.proofs.Tokens.{Takes, completes_takes}
+use Rattle.engine.proofs.Tokens.{completes_takes}
 
 module _ {E : Type 0} (a : Alphabet E) (t : List ℕ) (p : Position) (place : ℕ) where
   -- a token takes what it is written as

@@ -1,5 +1,5 @@
 -- The tokens of texts of bytes, by computation.
-use Rattle.std.proofs.Common.{◌≡◌, true, false, Some, None, Ok, Err, codes, refl}
+use Rattle.std.proofs.Common.{◌≡◌, false, Some, None, Ok, Err, codes, refl}
 use Rattle.kinds.specs.Bytes.{byte_alphabet}
 use Rattle.kinds.specs.Grammar.{start, after_thing, after_gap}
 use Rattle.kinds.specs.Reader.{some_below}

@@ -7,7 +7,7 @@ use Rattle.kinds.specs.Alphabet.{Alphabet}
 use Rattle.kinds.specs.Grammar.{Placed, Position, start, after_thing, after_gap, may_end}
 use Rattle.kinds.specs.Patterns as item
 use Rattle.kinds.specs.Patterns.{Item}
-use Rattle.kinds.specs.Reader.{State, between, Next, stuck, goes_on, complete}
+use Rattle.kinds.specs.Reader.{State, between, stuck, goes_on, complete}
 use Rattle.kinds.specs.Reader.{leads, next, items_of}
 use Rattle.engine.specs.declared.lexer.Position.TheVariants as position
 use Rattle.engine.specs.declared.lexer.Position.{Position as CodePosition}

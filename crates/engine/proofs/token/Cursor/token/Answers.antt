@@ -1,4 +1,4 @@
-use Rattle.std.proofs.Common.{◌≡◌, ◌+◌, length, get_or, refl, ap, ◌∙◌, sym}
+use Rattle.std.proofs.Common.{◌+◌, refl, ap, ◌∙◌, sym}
 use Rattle.std.proofs.Math.Path.{subst₂}
 use Rattle.std.proofs.lemmas.Result.{MatchResult-weaker}
 use Rattle.kinds.specs.Patterns as item

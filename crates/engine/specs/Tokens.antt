@@ -55,7 +55,7 @@ written (gap spelling least most) = spelling.text
 abbrev pub between_bars : List ℕ → List (List ℕ)
 between_bars t = slice_split (λ c. c == 124) t
 
--- the first run of a group and the rest behind its bar, by the place of the bar, if it has one
+-- a text before a bar at a place and the rest behind it, or all of it
 abbrev pub first_to : Slice → Option ℕ → Slice × Option Slice
 first_to s None = (s, None)
 first_to s (Some bar) = (
@@ -63,6 +63,7 @@ first_to s (Some bar) = (
   Some (record { place = s.place + bar + 1; text = drop (bar + 1) s.text }),
 )
 
+-- the first run of a group and the rest behind its bar, if it has one
 abbrev pub first_run : Slice → Slice × Option Slice
 first_run s = first_to s (position (λ c. c == 124) s.text)
 
@@ -141,7 +142,7 @@ module _ {E : Type 0} (a : Alphabet E) where
   token_before x (Ok xs) = Ok (x ∷ xs)
   token_before x (Err at) = Err at
 
-  -- the tokens of a text from a place on, n of them at most
+  -- the tokens of a text from a place on, where they are fewer than n
   abbrev pub tokens_from : ℕ → List ℕ → Position → ℕ → Result (List Lexeme) ℕ
   tokens_from zero t p place = Err place
   tokens_from (suc n) t p place =

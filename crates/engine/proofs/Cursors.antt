@@ -1,11 +1,11 @@
 -- What a cursor's methods say, by the text and the place where the cursor is known to be; and the tokens that they make.
-use Rattle.std.proofs.Common.{◌≡◌, ℕ, ◌+◌, ◌-◌, ◌*◌, ◌<◌, Bool, true, false, List, length, take, drop, sym, refl, ap, ◌∙◌, subst, arith}
+use Rattle.std.proofs.Common.{◌≡◌, ℕ, ◌+◌, ◌-◌, ◌*◌, Bool, true, false, List, length, drop, sym, refl, ap, ◌∙◌, arith}
 use Rattle.std.proofs.Math.Path.{subst₂}
 use Rattle.kinds.specs.Alphabet.{Alphabet}
 use Rattle.patterns.specs.Patterns as item
 use Rattle.patterns.specs.declared.direction.Direction.TheVariants.{FirstOn}
 use Rattle.engine.specs.Scanning.{standing, opening, Passes, RunBehind}
-use Rattle.engine.specs.Tokens.{Slice, slice, range, other, pairs, pair_stop, lexeme_of, run_slice}
+use Rattle.engine.specs.Tokens.{slice, range, other, pairs, pair_stop, lexeme_of, run_slice}
 use Rattle.engine.specs.declared.token.Cursor.{Cursor}
 use Rattle.engine.specs.declared.token.RunText.{RunText}
 use Rattle.engine.proofs.Lexing.{Ran, NoPairAt}
@@ -33,6 +33,7 @@ module _ {E : Type 0} (a : Alphabet E) where
     pub behind : At t r.1.place r.1
     pub holds : run_slice r.0 ≡ slice t place r.1.place
 
+  -- what a run's contract says of it
   pub run_at : {t : List ℕ} {place : ℕ} {before : Cursor} (r : RunText × Cursor) → At t place before → RunBehind a before r → RunAt t place r
   run_at r at h = record {
     ran = subst₂ (λ l n. Ran a l n r.1.place) at.text at.place (record { some = h.some; end = h.end; none_more = h.none_more });

@@ -8,7 +8,7 @@ use Rattle.patterns.specs.Reader.{least as lower, most as upper}
 use Rattle.engine.specs.Scanning.{standing, LongestNumber, Completes, Stops}
 use Rattle.engine.specs.Tokens.{item_from}
 use Rattle.patterns.proofs.Steps.{only_true}
-use Rattle.engine.proofs.Machine.{onward, only_false, next_behind_digits, next_closed, step_by, stops_here, number_run}
+use Rattle.engine.proofs.Machine.{only_false, next_behind_digits, next_closed, step_by, stops_here, number_run}
 
 module _ (t : List ℕ) (place c : ℕ) where
   -- where it does, it is the text's there

@@ -1,16 +1,16 @@
 -- How the runs of a group are put into a pattern, one after the other.
-use Rattle.std.proofs.Common.{◌≡◌, ℕ, zero, suc, ◌+◌, ◌-◌, ◌*◌, ◌<◌, ◌≤◌, Bool, true, false, cond, not, eqb, ltb, List, [], ◌∷◌, ◌++◌, map, length, take, drop, Some, None, Option, sym, refl, ap, ◌∙◌, subst, append_assoc, arith, length-append}
+use Rattle.std.proofs.Common.{◌≡◌, ℕ, suc, ◌+◌, ◌*◌, ◌≤◌, Bool, true, false, cond, not, eqb, ltb, List, [], ◌∷◌, ◌++◌, map, length, drop, Some, None, Option, sym, refl, ap, ◌∙◌, subst, append_assoc, arith, length-append}
 use Rattle.std.proofs.lemmas.Bool.{ltb-true, lt-ltb, both_ways, le-ltb, ltb-false}
 use Rattle.std.proofs.lemmas.List.{map-append, length_push}
 use Rattle.std.proofs.lemmas.List.Splits.{slice_split_first}
-use Rattle.std.specs.List.{slice_split, onto_first, position, position_or_len}
+use Rattle.std.specs.List.{onto_first, position_or_len}
 use Rattle.std.specs.Option.{option_map}
 use Rattle.kinds.specs.Alphabet.{Alphabet}
 use Rattle.engine.specs.Meanings.{literals_at}
-use Rattle.engine.specs.Parts.{run_in, CodePushed, HasRun, RunPushed}
+use Rattle.engine.specs.Parts.{run_in, RunPushed}
 use Rattle.engine.specs.Reading.{held}
-use Rattle.engine.specs.Stored.{run_codes, run_within, all_runs_within}
-use Rattle.engine.specs.Tokens.{Slice, range, other, written, between_bars, codes_in, first_to, first_run, pairs, run_slice, runs_slice}
+use Rattle.engine.specs.Stored.{run_codes, all_runs_within}
+use Rattle.engine.specs.Tokens.{Slice, range, other, written, between_bars, codes_in, first_to, first_run, run_slice, runs_slice}
 use Rattle.engine.specs.declared.pattern.Pattern.{Pattern}
 use Rattle.engine.specs.declared.pattern.Run.{Run}
 use Rattle.engine.specs.declared.token.RunText.{RunText}
@@ -82,6 +82,7 @@ bars_split s = go (ltb (position_or_len (λ c. eqb c 124) s.text) (length s.text
     go true h = slice_split_first (λ c. eqb c 124) s.text 0 (ltb-true _ _ h)
     go false h = no_bar s.text h
 
+-- the same of what the code answers
 pub split_left : (runs : RunsText) (r : RunText × Option RunsText) → ◌≡◌ {A = Slice × Option Slice} (run_slice r.0, option_map runs_slice r.1) (first_run (runs_slice runs)) → left_of (Some runs) ≡ r.0.text.now ∷ left_of r.1
 split_left runs r e =
     let parts : Slice × Option Slice → List (List ℕ) = λ x. x.0.text ∷ left_slices x.1 in
@@ -118,6 +119,7 @@ module _ {E : Type 0} (a : Alphabet E) where
         ap (λ cs. map (run_codes cs) so_far.added) (pushed.codes ∙ codes)
         ∙ runs_codes_more now.codes.items (codes_in a text) so_far.added added_within
 
+    -- so one run more is put into the pattern
     pub grouped_more : Grouped before after texts left
     grouped_more =
         let new = run_codes after.codes.items run in

@@ -1,11 +1,11 @@
 -- What a text does with literals, groups and ranges, from a place on.
-use Rattle.std.proofs.Common.{◌≡◌, ℕ, suc, ◌+◌, ◌-◌, ◌*◌, ◌<◌, ◌≤◌, Bool, true, false, cond, not, ◌&&◌, eqb, ltb, ◌⊎◌, List, [], ◌∷◌, ◌++◌, length, get_or, take, drop, is_some, Some, None, Ok, Err, inl, inr, Option, sym, refl, ap, ◌∙◌, subst, ⊎_elim, append_assoc, append-nil, add-zero, arith, length-append}
+use Rattle.std.proofs.Common.{◌≡◌, ℕ, suc, ◌+◌, ◌*◌, ◌<◌, Bool, true, false, cond, not, ◌&&◌, eqb, ltb, List, [], ◌∷◌, ◌++◌, length, get_or, drop, is_some, Some, None, Ok, Err, Option, sym, refl, ap, ◌∙◌, subst, ⊎_elim, append_assoc, append-nil, add-zero, arith, length-append}
 use Rattle.std.proofs.lemmas.Bool.{cases_Bool, cases_lt, both_ways, cond_both, cond-false, lt-ltb, eqb-true, and_right}
 use Rattle.std.proofs.lemmas.List.{drop_more, drop_all, drop-drop}
 use Rattle.kinds.specs.Alphabet.{Alphabet, Lawful, alphanumeric}
 use Rattle.patterns.specs.Grammar.{Position, gap_allowed}
-use Rattle.patterns.specs.Patterns.{Item, literal, any, group, range, other, gap}
-use Rattle.patterns.specs.Reader.{State, between, asked, half, alternatives, bracket, low, high, digits, Next, stuck, goes_on, complete, begun, only_if, leads, with_element, pair_in, next}
+use Rattle.patterns.specs.Patterns.{Item, literal, group, range, other, gap}
+use Rattle.patterns.specs.Reader.{State, between, half, alternatives, bracket, low, high, digits, Next, stuck, goes_on, complete, begun, only_if, leads, with_element, pair_in, next}
 use Rattle.patterns.specs.Reader.{least as lower}
 use Rattle.patterns.specs.declared.direction.Direction.TheVariants.{FirstOn}
 use Rattle.patterns.proofs.Steps
@@ -14,9 +14,8 @@ use Rattle.patterns.proofs.Texts.{leads_alphanumeric, pair_leads}
 use Rattle.engine.specs.Scanning.{standing, Completes, Stops}
 use Rattle.engine.specs.Tokens.{pairs, codes_in, pair_stop, item_from}
 use Rattle.engine.proofs.Gaps.{stands_true, stands_false}
-use Rattle.engine.proofs.Machine.{onward, only_false, step, step_by, stops_here}
+use Rattle.engine.proofs.Machine.{onward, only_false, step, step_by}
 
--- a test that is no sign
 module _ {E : Type 0} (a : Alphabet E) where
   -- there are as many codes as pairs
   pub codes_length : (u : List ℕ) → length (codes_in a u) ≡ pairs a u
@@ -51,8 +50,8 @@ module _ {E : Type 0} (a : Alphabet E) where
       let Here : List ℕ → Type 0 = λ u. item_from a s place u ≡ Err (pair_stop a place u) in
       ⊎_elim
       (λ h.
-          let cut = drop_more t place 0 h in
-          subst Here (sym cut) (no_pair_here s (get_or t place 0) place (drop (place + 1) t) (rw cut at none) (sign h)))
+      let cut = drop_more t place 0 h in
+      subst Here (sym cut) (no_pair_here s (get_or t place 0) place (drop (place + 1) t) (rw cut at none) (sign h)))
       (λ h. subst Here (sym (drop_all place t h)) refl)
       (cases_lt place (length t))
 
@@ -76,14 +75,6 @@ module _ {E : Type 0} (a : Alphabet E) where
       pub runs : List (List ℕ)
       pub some : 0 < length runs
       pub reads : item_from a (alternatives [] []) from (drop from t) ≡ item_from a (alternatives runs []) at (drop at t)
-
-  -- a character that begins no item but a literal
-  pub record Plain (c : ℕ) : Type 0 where
-    pub question : eqb c 63 ≡ false
-    pub parenthesis : eqb c 40 ≡ false
-    pub bracket : eqb c 91 ≡ false
-    pub star : eqb c 42 ≡ false
-    pub brace : eqb c 123 ≡ false
 
   -- a character that stands there, by what it does
   module _ (law : Lawful a) (t : List ℕ) where
@@ -306,13 +297,13 @@ module _ {E : Type 0} (a : Alphabet E) where
       bracket_inside place none =
           ⊎_elim
           (λ h.
-              let c = get_or t place 0 in
-              let rest = drop (place + 1) t in
-              step a t bracket place h
-              ∙ ap (λ n. onward a n place rest) (cond-false (eqb c 33) _ _ (stands_false t place 33 none h))
-              ∙ same_pair c place rest (leads a c)
-              ∙ ap (λ n. onward a n place rest) (sym (low_sign true [] c (λ _. refl) (λ _. refl)))
-              ∙ sym (step a t (low true []) place h))
+          let c = get_or t place 0 in
+          let rest = drop (place + 1) t in
+          step a t bracket place h
+          ∙ ap (λ n. onward a n place rest) (cond-false (eqb c 33) _ _ (stands_false t place 33 none h))
+          ∙ same_pair c place rest (leads a c)
+          ∙ ap (λ n. onward a n place rest) (sym (low_sign true [] c (λ _. refl) (λ _. refl)))
+          ∙ sym (step a t (low true []) place h))
           (λ h. ap (item_from a bracket place) (drop_all place t h) ∙ sym (ap (item_from a (low true []) place) (drop_all place t h)))
           (cases_lt place (length t))
         where
@@ -328,24 +319,7 @@ module _ {E : Type 0} (a : Alphabet E) where
           same_pair c place rest true = same_second c (place + 1) rest
           same_pair c place rest false = refl
 
-      -- and with one, like a range that leaves out
-      pub bracket_outside : (place : ℕ) → standing t place 33 ≡ true → item_from a bracket place (drop place t) ≡ item_from a (low false []) (place + 1) (drop (place + 1) t)
-      bracket_outside place sign = goes law t place sign Steps.exclude
-
       module _ (p : Position) (place : ℕ) where
-        -- two question marks
-        pub any_done : standing t place 63 ≡ true → standing t (place + 1) 63 ≡ true → Completes a t (between p) place any (place + 2)
-        any_done first second =
-            let on : place + 1 + 1 ≡ place + 2 = omega arith in
-            goes law t place first (Steps.ask p) ∙ done law t (place + 1) second Steps.asked_twice ∙ ap (λ n. Ok (any, n)) on
-
-        -- one alone
-        pub any_stops : (at : ℕ) → standing t place 63 ≡ true → standing t (place + 1) 63 ≡ false → at ≡ place + 1 → Stops a t (between p) place at
-        any_stops at first second e =
-            goes law t place first (Steps.ask p)
-            ∙ stops_here a t asked (place + 1) (λ h. only_false _ _ (stands_false t (place + 1) 63 second h))
-            ∙ ap Err (sym e)
-
         -- an opening parenthesis and an opening bracket
         pub group_opens : standing t place 40 ≡ true → item_from a (between p) place (drop place t) ≡ item_from a (alternatives [] []) (place + 1) (drop (place + 1) t)
         group_opens sign = goes law t place sign (Steps.open_group p)
@@ -359,14 +333,6 @@ module _ {E : Type 0} (a : Alphabet E) where
 
         pub gap_opens : gap_allowed p ≡ true → standing t place 123 ≡ true → item_from a (between p) place (drop place t) ≡ item_from a (digits lower 0 0) (place + 1) (drop (place + 1) t)
         gap_opens allowed sign = goes law t place sign (Steps.open_brace p allowed)
-
-        -- and where none may
-        pub gap_misplaced : (at : ℕ) → gap_allowed p ≡ false → (standing t place 42 ≡ true) ⊎ (standing t place 123 ≡ true) → at ≡ place → Stops a t (between p) place at
-        gap_misplaced at none sign e = stops_here a t (between p) place (λ _. go sign) ∙ ap Err (sym e)
-          where
-            go : (standing t place 42 ≡ true) ⊎ (standing t place 123 ≡ true) → next a (between p) (get_or t place 0) ≡ stuck
-            go (inl star) = ap (next a (between p)) (stands_true t place 42 star).1 ∙ only_false _ _ none
-            go (inr brace) = ap (next a (between p)) (stands_true t place 123 brace).1 ∙ only_false _ _ none
 
         -- a literal
         pub literal_done : 0 < pairs a (drop place t) → (c : ℕ) × Completes a t (between p) place (literal c) (place + 2)
@@ -383,12 +349,6 @@ module _ {E : Type 0} (a : Alphabet E) where
                     let on : place + 1 + 1 ≡ place + 2 = omega arith in (
                       a.code x,
                       ap (λ n. onward a n place (s ∷ rest)) (goes_next a law (Steps.first (between p) f refl (pair_leads a law f s x e)))
-                      ∙ ap (λ n. onward a n (place + 1) rest) (done_next a law (Steps.pair p f s x e))
-                      ∙ ap (λ n. Ok (literal (a.code x), n)) on,
+                          ∙ ap (λ n. onward a n (place + 1) rest) (done_next a law (Steps.pair p f s x e))
+                          ∙ ap (λ n. Ok (literal (a.code x), n)) on,
                     )
-
-        -- where a literal has to stand and none does
-        pub literal_none : (at : ℕ) → (place < length t → Plain (get_or t place 0)) → NoPairAt t place at → Stops a t (between p) place at
-        literal_none at plain h =
-            no_pair t (between p) place h.0 (λ l. let c = plain l in cond-false _ _ _ c.question ∙ cond-false _ _ _ c.parenthesis ∙ cond-false _ _ _ c.bracket ∙ cond-false _ _ _ c.star ∙ cond-false _ _ _ c.brace)
-            ∙ ap Err (sym h.1)

@@ -31,4 +31,6 @@ pub mod Smallest
 pub mod Sounds
 pub mod Tables
 pub mod Tallies
+pub mod Texts
 pub mod Tokens
+pub mod Vectors

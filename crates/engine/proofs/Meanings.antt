@@ -1,15 +1,14 @@
 -- The items that a token says are those that the reader's definition reads.
-use Rattle.std.proofs.Common.{◌≡◌, ℕ, zero, suc, ◌+◌, ◌-◌, ◌*◌, ◌<◌, ◌≤◌, Bool, true, false, cond, eqb, ltb, List, [], ◌∷◌, ◌++◌, map, length, take, drop, is_some, Some, None, Ok, Err, codes, Option, Result, sym, refl, ap, ◌∙◌, subst, append_assoc, append-nil, add-zero, arith, length-append, length-drop, length-take-le}
-use Rattle.std.proofs.lemmas.Bool.{lt-ltb, le-ltb, ltb-true, ltb-false, cond-true, cond-false, ne_eqb}
+use Rattle.std.proofs.Common.{◌≡◌, ℕ, zero, suc, ◌+◌, ◌-◌, ◌*◌, ◌<◌, ◌≤◌, Bool, true, false, cond, eqb, ltb, List, [], ◌∷◌, ◌++◌, map, length, take, drop, is_some, Some, None, Ok, Err, codes, Option, Result, sym, refl, ap, ◌∙◌, subst, append_assoc, add-zero, arith, length-append, length-drop, length-take-le}
+use Rattle.std.proofs.lemmas.Bool.{ltb-true, ltb-false, cond-true, cond-false}
 use Rattle.std.proofs.lemmas.List.{drop-drop, drop_all, length-map}
 use Rattle.std.proofs.lemmas.List.Splits.{slice_split_at, slice_split_none}
 use Rattle.std.specs.List.{All}
-use Rattle.kinds.specs.Alphabet.{Alphabet, Lawful, alphanumeric}
-use Rattle.patterns.specs.Grammar.{Placed, Position, start, after_thing, after_gap, gap_allowed, may_end, behind, Literals, Run, Alternatives, Bounds, Says}
+use Rattle.kinds.specs.Alphabet.{Alphabet, Lawful}
+use Rattle.patterns.specs.Grammar.{Placed, Position, start, after_thing, after_gap, gap_allowed, may_end, behind, Literals, Alternatives, Says}
 use Rattle.patterns.specs.Patterns as item
 use Rattle.patterns.specs.Patterns.{Item}
 use Rattle.patterns.specs.Reader.{State, between, Next, stuck, goes_on, complete, next, finished, in_front, follow, items_of}
-use Rattle.patterns.specs.declared.direction.Direction.TheVariants.{FirstOn}
 use Rattle.patterns.proofs.Follows
 use Rattle.patterns.proofs.Follows.{Reads, follow_reads, onward}
 use Rattle.patterns.proofs.Sound.{reads_says, reads_allowed}
@@ -18,8 +17,8 @@ use Rattle.patterns.proofs.Steps.{Goes, Done, Outcome, outcome, goes_inside, goe
 use Rattle.patterns.proofs.Texts.{no_sign, pair_leads}
 use Rattle.engine.specs.Meanings.{items_at, literals_at, runs_in, run_count}
 use Rattle.engine.specs.Reading.{held}
-use Rattle.engine.specs.Scanning.{Completes, token_end}
-use Rattle.engine.specs.Tokens.{Slice, Lexeme, literals, any, group, range, other, gap, slice, between_bars, behind_lexeme, codes_in, item_from, lexed, lexeme_at, lexeme_of, pairs, written}
+use Rattle.engine.specs.Scanning.{Completes}
+use Rattle.engine.specs.Tokens.{Lexeme, literals, any, group, range, other, gap, slice, between_bars, behind_lexeme, codes_in, item_from, lexed, lexeme_at, lexeme_of, pairs, written}
 use Rattle.engine.specs.declared.pattern.Pattern.{Pattern}
 use Rattle.engine.proofs.Groups.{literals_many}
 use Rattle.engine.proofs.Lexing.{codes_length}
@@ -57,6 +56,12 @@ gap_behind : (p : Position) → gap_allowed p ≡ true → taken p ≡ 1
 gap_behind start h = absurd (grind arith)
 gap_behind after_thing h = refl
 gap_behind after_gap h = refl
+
+-- one token is one
+pub same_token : (x y : Lexeme) → ◌≡◌ {A = Result (Option Lexeme) ℕ} (Ok (Some x)) (Ok (Some y)) → x ≡ y
+same_token x y e =
+    let value : Result (Option Lexeme) ℕ → Lexeme = λ r. elim r [ Ok o ↦ elim o [ Some z ↦ z | None ↦ x ] | Err _ ↦ x ] in
+    ap value e
 
 -- what is refused is refused at one place
 refused : (m n : ℕ) → ◌≡◌ {A = Result (Item × ℕ) ℕ} (Err m) (Err n) → m ≡ n
@@ -225,6 +230,7 @@ module _ {E : Type 0} (a : Alphabet E) where
       -- any other item, where the token has it
       module _ (i : Item) (front rest : List ℕ) (to : ℕ) (x : Lexeme) (reads : Reads a (between p) front i) (cut : drop place t ≡ front ++ rest) (end : to ≡ place + length front)
           (spelled : written x ≡ front) (has : items_at a place x ≡ record { place = place; item = i } ∷ []) (same : behind i ≡ behind_lexeme x) where
+        -- its items come before those of the rest
         other_follows : follow a (between p) place place (drop place t) ≡ prepended (items_at a place x) (follow a (between (behind_lexeme x)) (place + length (written x)) (place + length (written x)) (drop (place + length (written x)) t))
         other_follows =
             let rest_is : rest ≡ drop (place + length front) t = sym (drop_front front rest) ∙ ap (drop (length front)) (sym cut) ∙ drop-drop (length front) place t in
@@ -234,6 +240,7 @@ module _ {E : Type 0} (a : Alphabet E) where
             ∙ (λ k. prepended (sym has k) (follow a (between (same k)) (place + length front) (place + length front) (rest_is k)))
             ∙ ap (λ l. prepended (items_at a place x) (follow a (between (behind_lexeme x)) (place + length l) (place + length l) (drop (place + length l) t))) (sym spelled)
 
+        -- so the token means the item
         other_means : 3 * run_count x ≤ length front → 2 ≤ length front + taken p → 0 < length front → Means x
         other_means runs two some = record {
           follows = other_follows;
@@ -294,6 +301,7 @@ module _ {E : Type 0} (a : Alphabet E) where
             (says_written a t place (item.gap least most) front rest to not cut end says) refl refl
             (omega arith) (omega (arith, gap_behind p (reads_allowed a reads), some)) some
 
+      -- the token of an item that is no literal
       thing : (i : Item) (to : ℕ) → ((c : ℕ) → i ≡ item.literal c → ⊥) → Completes a t (between p) place i to → Means (lexeme_of a t place to i)
       thing i to not e =
           let h = item_reads a (drop place t) (between p) place i to e in
@@ -314,12 +322,6 @@ module _ {E : Type 0} (a : Alphabet E) where
       completes_means (item.range d inside low high) to e = thing (item.range d inside low high) to (λ c h. cc) e
       completes_means (item.other run) to e = thing (item.other run) to (λ c h. cc) e
       completes_means (item.gap least most) to e = thing (item.gap least most) to (λ c h. cc) e
-
-      -- one token is one
-      same_token : (x y : Lexeme) → ◌≡◌ {A = Result (Option Lexeme) ℕ} (Ok (Some x)) (Ok (Some y)) → x ≡ y
-      same_token x y e =
-          let value : Result (Option Lexeme) ℕ → Lexeme = λ r. elim r [ Ok o ↦ elim o [ Some z ↦ z | None ↦ x ] | Err _ ↦ x ] in
-          ap value e
 
       -- what the lexer's definition says of the reader's: a token
       pub token_means : (x : Lexeme) → lexed a t p place ≡ Ok (Some x) → Means x
@@ -407,6 +409,7 @@ module _ {E : Type 0} (a : Alphabet E) where
         pub place_fits : place + length (written x) ≤ 200
         pub onward : place < later
 
+      -- where the text has at most 200 characters
       pub room : length t ≤ 200 → Room
       room short =
           let inside = token_inside in

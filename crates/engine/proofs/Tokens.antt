@@ -1,8 +1,8 @@
 -- A token is the part of the text that it takes.
-use Rattle.std.proofs.Common.{◌≡◌, ℕ, suc, ◌+◌, ◌-◌, ◌*◌, ◌<◌, ◌≤◌, Bool, true, false, cond, List, [], ◌∷◌, ◌++◌, length, take, drop, is_some, Some, None, Ok, Err, codes, Option, Result, sym, refl, ap, ◌∙◌, subst, append_assoc, arith, length-append, length-drop, take-append-drop, length-take-le}
+use Rattle.std.proofs.Common.{◌≡◌, ℕ, suc, ◌+◌, ◌-◌, ◌*◌, ◌≤◌, Bool, true, false, cond, List, [], ◌∷◌, ◌++◌, length, take, drop, is_some, Ok, Err, codes, Result, sym, refl, ap, ◌∙◌, subst, append_assoc, arith, length-append, take-append-drop, length-take-le}
 use Rattle.std.proofs.lemmas.List.{drop-drop}
 use Rattle.kinds.specs.Alphabet.{Alphabet}
-use Rattle.patterns.specs.Grammar.{Position, Literals, Run, Alternatives, Bounds, Says}
+use Rattle.patterns.specs.Grammar.{Position, Literals, Says}
 use Rattle.patterns.specs.Patterns.{Item, literal, any, group, range, other, gap}
 use Rattle.patterns.specs.Reader.{State, between, Next, stuck, goes_on, complete, next}
 use Rattle.patterns.proofs.Follows.{Reads, ends, more}

@@ -1,16 +1,22 @@
 -- What tokens say: their items.
-use Rattle.std.specs.Prelude.{ℕ, ◌+◌, Bool, List, [], ◌∷◌, map, length}
+use Rattle.std.specs.Prelude.{ℕ, ◌+◌, List, [], ◌∷◌, map, length}
 use Rattle.kinds.specs.Alphabet.{Alphabet}
 use Rattle.patterns.specs.Grammar.{Placed}
 use Rattle.patterns.specs.Patterns as item
 use Rattle.patterns.specs.Patterns.{Item}
 use Rattle.patterns.specs.declared.direction.Direction.TheVariants.{FirstOn}
-use Rattle.engine.specs.Tokens.{Lexeme, literals, any, group, range, other, gap, between_bars, codes_in}
+use Rattle.engine.specs.Tokens.{Lexeme, literals, any, group, range, other, gap}
+use Rattle.engine.specs.Tokens.{between_bars, codes_in}
 
 -- literals that begin at a place, two characters each
 abbrev pub literals_at : ℕ → List ℕ → List Placed
 literals_at place [] = []
-literals_at place (c ∷ cs) = record { place = place; item = item.literal c } ∷ literals_at (place + 2) cs
+literals_at place (c ∷ cs) =
+    record { place = place; item = item.literal c } ∷ literals_at (place + 2) cs
+
+-- one item at a place
+abbrev pub one_at : ℕ → Item → List Placed
+one_at place i = record { place = place; item = i } ∷ []
 
 -- how many runs of a group a token holds
 abbrev pub run_count : Lexeme → ℕ
@@ -29,8 +35,9 @@ module _ {E : Type 0} (a : Alphabet E) where
   -- the items of a token that begins at a place
   abbrev pub items_at : ℕ → Lexeme → List Placed
   items_at place (literals run) = literals_at place (codes_in a run.text)
-  items_at place any = record { place = place; item = item.any } ∷ []
-  items_at place (group runs) = record { place = place; item = item.group (runs_in runs.text) } ∷ []
-  items_at place (range inside low high) = record { place = place; item = item.range FirstOn inside (codes_in a low.text) (codes_in a high.text) } ∷ []
-  items_at place (other run) = record { place = place; item = item.other (codes_in a run.text) } ∷ []
-  items_at place (gap spelling least most) = record { place = place; item = item.gap least most } ∷ []
+  items_at place any = one_at place item.any
+  items_at place (group runs) = one_at place (item.group (runs_in runs.text))
+  items_at place (range inside low high) =
+      one_at place (item.range FirstOn inside (codes_in a low.text) (codes_in a high.text))
+  items_at place (other run) = one_at place (item.other (codes_in a run.text))
+  items_at place (gap spelling least most) = one_at place (item.gap least most)

@@ -15,4 +15,5 @@ held p = items p.codes.items p.runs.items p.parts.items
 -- a text is read as its items, or refused at the place that the definition gives
 abbrev pub Read : {E : Type 0} → Alphabet E → List ℕ → ℕ → Result Pattern Fault → Type 0
 Read a t sequence (Ok p) = items_of a t ≡ Ok (held p)
-Read a t sequence (Err f) = (items_of a t ≡ Err f.place) × (f.cause ≡ Grammar) × (f.sequence ≡ sequence)
+Read a t sequence (Err f) =
+    (items_of a t ≡ Err f.place) × (f.cause ≡ Grammar) × (f.sequence ≡ sequence)

@@ -1,11 +1,14 @@
 -- The tokens of a pattern text, and the lexer that hands them out, as a definition that computes.
-use Rattle.std.specs.Prelude.{ℕ, suc, ◌+◌, ◌-◌, ◌*◌, Bool, true, false, if◌then◌else◌, List, [], ◌∷◌, ◌++◌, length, take, drop, is_some, Some, None, Ok, Err, codes, Option, Result, ◌==◌, nat_lt}
-use Rattle.std.specs.List.{slice_split, position}
+use Rattle.std.specs.Prelude.{◌≡◌, ℕ, zero, suc, ◌+◌, ◌-◌, ◌*◌, Bool, true, false, if◌then◌else◌}
+use Rattle.std.specs.Prelude.{List, [], ◌∷◌, ◌++◌, length, take, drop, codes, ◌==◌, nat_lt}
+use Rattle.std.specs.Prelude.{is_some, Some, None, Ok, Err, Option, Result}
+use Rattle.std.specs.List.{flat_map, slice_split, position}
 use Rattle.kinds.specs.Alphabet.{Alphabet}
-use Rattle.patterns.specs.Grammar.{Position, start, after_thing, after_gap, may_end}
+use Rattle.patterns.specs.Grammar.{Placed, Position, start, after_thing, after_gap, may_end}
 use Rattle.patterns.specs.Patterns as item
 use Rattle.patterns.specs.Patterns.{Item}
-use Rattle.patterns.specs.Reader.{State, between, Next, stuck, goes_on, complete, leads, next}
+use Rattle.patterns.specs.Reader.{State, between, stuck, goes_on, complete}
+use Rattle.patterns.specs.Reader.{leads, next, items_of}
 use Rattle.engine.specs.declared.lexer.Position.TheVariants as position
 use Rattle.engine.specs.declared.lexer.Position.{Position as CodePosition}
 use Rattle.engine.specs.declared.lexer.Stop.{Stop}
@@ -52,11 +55,15 @@ written (gap spelling least most) = spelling.text
 abbrev pub between_bars : List ℕ → List (List ℕ)
 between_bars t = slice_split (λ c. c == 124) t
 
--- the first run of a group and the rest behind its bar, by the place of the bar in the text, if it has one
+-- a text before a bar at a place and the rest behind it, or all of it
 abbrev pub first_to : Slice → Option ℕ → Slice × Option Slice
 first_to s None = (s, None)
-first_to s (Some bar) = (record { place = s.place; text = take bar s.text }, Some (record { place = s.place + bar + 1; text = drop (bar + 1) s.text }))
+first_to s (Some bar) = (
+  record { place = s.place; text = take bar s.text },
+  Some (record { place = s.place + bar + 1; text = drop (bar + 1) s.text }),
+)
 
+-- the first run of a group and the rest behind its bar, if it has one
 abbrev pub first_run : Slice → Slice × Option Slice
 first_run s = first_to s (position (λ c. c == 124) s.text)
 
@@ -69,9 +76,10 @@ behind_lexeme (range inside low high) = after_thing
 behind_lexeme (other run) = after_thing
 behind_lexeme (gap spelling least most) = after_gap
 
--- the range whose first run begins at one place, whose colon stands at another, and whose closing bracket at a third
+-- the range whose first run begins at a place, by the places of its colon and its last bracket
 abbrev pub range_between : List ℕ → Bool → ℕ → ℕ → ℕ → Lexeme
-range_between t inside from colon close = range inside (slice t from colon) (slice t (colon + 1) close)
+range_between t inside from colon close =
+    range inside (slice t from colon) (slice t (colon + 1) close)
 
 module _ {E : Type 0} (a : Alphabet E) where
   -- how many pairs that name elements a text begins with
@@ -84,15 +92,17 @@ module _ {E : Type 0} (a : Alphabet E) where
   abbrev pub codes_in : List ℕ → List ℕ
   codes_in [] = []
   codes_in (first ∷ []) = []
-  codes_in (first ∷ second ∷ t) = elim (a.named first second) [ None ↦ [] | Some x ↦ a.code x ∷ codes_in t ]
+  codes_in (first ∷ second ∷ t) =
+      elim (a.named first second) [ None ↦ [] | Some x ↦ a.code x ∷ codes_in t ]
 
-  -- the place of the first character that cannot stand, where a text at a place has to begin with a pair and does not
+  -- the place of the first character that cannot stand, where a text has to begin with a pair
+  -- and does not
   abbrev pub pair_stop : ℕ → List ℕ → ℕ
   pair_stop place [] = place
   pair_stop place (first ∷ t) = if leads a first then place + 1 else place
 
-  -- The item that a text at a place completes in a state, with the place behind it; or the place of the first character that
-  -- cannot stand, which is the end of the text where more was to come.
+  -- The item that a text at a place completes in a state, with the place behind it; or the place
+  -- of the first character that cannot stand, which is the end where more was to come.
   abbrev pub item_from : State → ℕ → List ℕ → Result (Item × ℕ) ℕ
   item_from s place [] = Err place
   item_from s place (c ∷ t) =
@@ -102,13 +112,15 @@ module _ {E : Type 0} (a : Alphabet E) where
         | complete i ↦ Ok (i, place + 1)
       ]
 
-  -- the token of an item that stands in a text from a place to before another; literals are taken together
+  -- the token of an item that stands from a place to before another; literals go together
   abbrev pub lexeme_of : List ℕ → ℕ → ℕ → Item → Lexeme
   lexeme_of t from to (item.literal c) = literals (slice t from (from + 2 * pairs (drop from t)))
   lexeme_of t from to item.any = any
   lexeme_of t from to (item.group runs) = group (slice t (from + 1) (to - 1))
-  lexeme_of t from to (item.range d true low high) = range_between t true (from + 1) (from + 1 + 2 * length low) (to - 1)
-  lexeme_of t from to (item.range d false low high) = range_between t false (from + 2) (from + 2 + 2 * length low) (to - 1)
+  lexeme_of t from to (item.range d true low high) =
+      range_between t true (from + 1) (from + 1 + 2 * length low) (to - 1)
+  lexeme_of t from to (item.range d false low high) =
+      range_between t false (from + 2) (from + 2 + 2 * length low) (to - 1)
   lexeme_of t from to (item.other run) = other (slice t (from + 2) (to - 1))
   lexeme_of t from to (item.gap least most) = gap (slice t from to) least most
 
@@ -117,13 +129,40 @@ module _ {E : Type 0} (a : Alphabet E) where
   lexeme_at t from (Ok r) = Ok (Some (lexeme_of t from r.1 r.0))
   lexeme_at t from (Err at) = Err at
 
-  -- The next token of a text at a place, by its position there; none where the text may end and has ended; or the place of the
-  -- first character that cannot stand.
+  -- The next token of a text at a place, by its position there; none where the text may end and
+  -- has ended; or the place of the first character that cannot stand.
   abbrev pub lexed : List ℕ → Position → ℕ → Result (Option Lexeme) ℕ
   lexed t p place =
       if nat_lt place (length t) then lexeme_at t place (item_from (between p) place (drop place t))
       else if may_end p then Ok None
       else Err place
+
+  -- a token before what follows it
+  abbrev pub token_before : Lexeme → Result (List Lexeme) ℕ → Result (List Lexeme) ℕ
+  token_before x (Ok xs) = Ok (x ∷ xs)
+  token_before x (Err at) = Err at
+
+  -- the tokens of a text from a place on, where they are fewer than n
+  abbrev pub tokens_from : ℕ → List ℕ → Position → ℕ → Result (List Lexeme) ℕ
+  tokens_from zero t p place = Err place
+  tokens_from (suc n) t p place =
+      elim (lexed t p place) [
+        | Err at ↦ Err at
+        | Ok o ↦ elim o [
+          | None ↦ Ok []
+          | Some x ↦ token_before x (tokens_from n t (behind_lexeme x) (place + length (written x)))
+        ]
+      ]
+
+  -- all tokens of a text: each has a character at least
+  abbrev pub tokens_of : List ℕ → Result (List Lexeme) ℕ
+  tokens_of t = tokens_from (suc (length t)) t start 0
+
+  -- The theorem: a text that is read has tokens, and as they are written they are the text.
+  abbrev pub TokensAreTheText : Type 0
+  TokensAreTheText =
+      (t : List ℕ) (qs : List Placed) → items_of a t ≡ Ok qs
+      → (xs : List Lexeme) × (tokens_of t ≡ Ok xs) × (flat_map written xs ≡ t)
 
 -- What the code answers, in the words above.
 
@@ -142,7 +181,8 @@ lexeme_in token.Any = any
 lexeme_in (token.Group runs) = group (runs_slice runs)
 lexeme_in (token.Range inside low high) = range inside (run_slice low) (run_slice high)
 lexeme_in (token.Other run) = other (run_slice run)
-lexeme_in (token.Gap spelling place g) = gap (record { place = place; text = spelling.now }) g.least g.most
+lexeme_in (token.Gap spelling place g) =
+    gap (record { place = place; text = spelling.now }) g.least g.most
 
 -- an answer
 abbrev pub answer_in : Result (Option Token) Stop → Result (Option Lexeme) ℕ

@@ -1,12 +1,18 @@
 // Hands out the tokens of a pattern text.
-ghost use Rattle.std.specs.Prelude.{◌≡◌, ◌+◌, ◌-◌, ◌<◌, ◌≤◌, ◌++◌, ◌==◌, IsTrue, ◌↔◌, ◌⊎◌, [], true, false, length, take, drop, MatchOption, MatchResult, slice_index};
+ghost use Rattle.std.specs.Prelude.{◌≡◌, ◌+◌, ◌-◌, ◌≤◌, ◌++◌, ◌==◌, IsTrue, ◌↔◌, ◌⊎◌, [], true};
+ghost use Rattle.std.specs.Prelude.{length, take, drop, MatchOption, MatchResult};
 ghost use Rattle.std.specs.List.{position, prefix_len};
 ghost use Rattle.std.specs.Option.{option_map};
-ghost use Rattle.engine.specs.Scanning.{standing, opening, Behind, Passes, NoDigit, LongestNumber, RunBehind, PairBehind, CompletesAs, CompletesGroup, CompletesGap, Lexes, Stops};
-ghost use Rattle.engine.specs.Tokens.{first_run, run_slice, runs_slice, pairs, pair_stop, lexed, answer_in, passed, position_in, position_behind, behind_token};
+ghost use Rattle.engine.specs.Scanning.{ahead, opening, standing, Behind, FirstBehind, Passes, Misses};
+ghost use Rattle.engine.specs.Scanning.{MissesAt, NoDigit, LongestNumber, PairBehind, RunBehind};
+ghost use Rattle.engine.specs.Scanning.{NoPair, NoEnd, GapBehind, GroupBehind, RangeBehind};
+ghost use Rattle.engine.specs.Scanning.{TokenBehind, Refuses};
+ghost use Rattle.engine.specs.Tokens.{first_run, run_slice, runs_slice, pairs, pair_stop, lexed};
+ghost use Rattle.engine.specs.Tokens.{answer_in, passed, position_in, position_behind, behind_token};
 ghost use Rattle.kinds.specs.Alphabet.{within};
-ghost use Rattle.patterns.specs.Grammar.{Digits, followed_by, gap_allowed as allows_gap, may_end as may_end_at};
-ghost use Rattle.patterns.specs.Reader.{alternatives, between as between_items, bracket, digits, leads, least as lower, low as low_run, most as upper};
+ghost use Rattle.patterns.specs.Grammar.{gap_allowed as allows_gap, may_end as may_end_at};
+ghost use Rattle.patterns.specs.Reader.{alternatives, between as between_items, bracket, digits, leads};
+ghost use Rattle.patterns.specs.Reader.{least as lower, low as low_run, most as upper};
 
 use crate::token::{Cursor, Gap, RunText, RunsText, Token};
 use kinds::Kind;
@@ -17,7 +23,7 @@ pub struct Stop {
     pub place: usize,
 }
 
-/// Where a text is between its items: it decides whether a gap may stand and whether the text may end.
+/// Where a text is between its items: whether a gap may stand and whether the text may end.
 #[derive(Clone, Copy, PartialEq, Eq, Debug)]
 pub enum Position {
     Start,
@@ -78,14 +84,17 @@ impl<'t> Lexer<'t> {
         self.at.place
     }
 
-    /// The next token; none where the text may end and has ended. Refused at the first character that cannot stand, and at the
-    /// end of a text that may not end. Only a token moves the lexer on.
+    /// The next token; none where the text may end and has ended. Refused at the first character
+    /// that cannot stand, and at the end of a text that may not end. Only a token moves it on.
     pub fn next<K: Kind>(&mut self) -> Result<Option<Token<'t>>, Stop>
         ensures same_text { self.new.at.text.now ≡ self.old.at.text.now }
-        ensures answer { answer_in result ≡ lexed K.alphabet self.old.at.text.now (position_in self.old.position) self.old.at.place }
+        ensures answer { answer_in result
+            ≡ lexed K.alphabet self.old.at.text.now (position_in self.old.position) self.old.at.place }
         ensures moves { self.new.at.place ≡ self.old.at.place + length (passed result) }
-        ensures position { position_in self.new.position ≡ position_behind result (position_in self.old.position) }
-        ensures written { drop self.old.at.place self.old.at.text.now ≡ passed result ++ drop self.new.at.place self.old.at.text.now }
+        ensures position { position_in self.new.position
+            ≡ position_behind result (position_in self.old.position) }
+        ensures written { ahead self.old.at
+            ≡ passed result ++ drop self.new.at.place self.old.at.text.now }
     {
         if self.at.is_at_end() {
             return if self.position.may_end() {
@@ -128,7 +137,8 @@ fn digit_count(text: &[u8]) -> usize
 impl<'t> RunsText<'t> {
     /// The first run, and those behind its bar, if it has one.
     pub fn first_and_rest(self) -> (RunText<'t>, Option<RunsText<'t>>)
-        ensures { (run_slice result.0, option_map runs_slice result.1) ≡ first_run (runs_slice self.entry) }
+        ensures { (run_slice result.0, option_map runs_slice result.1)
+            ≡ first_run (runs_slice self.entry) }
     {
         let RunsText { text, place } = self;
         match first_bar(text) {
@@ -166,7 +176,8 @@ impl<'t> Cursor<'t> {
 
     // The next character, with the cursor behind it; nothing at the end of the text.
     fn split_first(self) -> Option<(u8, Cursor<'t>)>
-        ensures { MatchOption result (self.entry.place ≡ length self.entry.text.now) (λ r. (self.entry.place < length self.entry.text.now) × (r.0 ≡ slice_index self.entry.text.now self.entry.place) × (r.1.text.now ≡ self.entry.text.now) × (r.1.place ≡ self.entry.place + 1)) }
+        ensures { MatchOption result (self.entry.place ≡ length self.entry.text.now)
+            (FirstBehind self.entry) }
     {
         let Cursor { text, place } = self;
         let first = *text.get(place)?;
@@ -178,14 +189,14 @@ impl<'t> Cursor<'t> {
     fn text_to(self, end: usize) -> &'t [u8]
         requires order { self.place ≤ end }
         requires inside { end ≤ length self.text.now }
-        ensures { result.now ≡ take (end - self.entry.place) (drop self.entry.place self.entry.text.now) }
+        ensures { result.now ≡ take (end - self.entry.place) (ahead self.entry) }
     {
         &self.text[self.place..end]
     }
 
     // The cursor behind a character, if that stands next.
     fn past(self, c: u8) -> Option<Cursor<'t>>
-        ensures { MatchOption result (standing self.entry.text.now self.entry.place c ≡ false) (Passes self.entry c) }
+        ensures { MatchOption result (Misses self.entry c) (Passes self.entry c) }
     {
         let (first, later) = self.split_first()?;
         (first == c).then_some(later)
@@ -193,7 +204,7 @@ impl<'t> Cursor<'t> {
 
     // The cursor behind a character that has to stand next.
     fn require(self, c: u8) -> Result<Cursor<'t>, Stop>
-        ensures { MatchResult result (Passes self.entry c) (λ stop. (standing self.entry.text.now self.entry.place c ≡ false) × (stop.place ≡ self.entry.place)) }
+        ensures { MatchResult result (Passes self.entry c) (MissesAt self.entry c) }
     {
         self.past(c).ok_or(self.stop())
     }
@@ -205,9 +216,10 @@ impl<'t> Cursor<'t> {
         Stop { place: self.place }
     }
 
-    // The element that the pair here names, with the cursor behind the pair; nothing where no pair names one.
+    // The element that the pair here names, if it names one, with the cursor behind the pair.
     pub(crate) fn pair<K: Kind>(self) -> Option<(K, Cursor<'t>)>
-        ensures { MatchOption result (pairs K.alphabet (drop self.entry.place self.entry.text.now) ≡ 0) (PairBehind K.alphabet self.entry) }
+        ensures { MatchOption result (pairs K.alphabet (ahead self.entry) ≡ 0)
+            (PairBehind K.alphabet self.entry) }
     {
         let (first, behind) = self.split_first()?;
         let (second, later) = behind.split_first()?;
@@ -215,9 +227,9 @@ impl<'t> Cursor<'t> {
         Some((element, later))
     }
 
-    // That no pair can be read from here: its second character cannot stand, if a pair begins with the first.
+    // That no pair can be read from here: at its second character, if the first begins one.
     fn pair_stop<K: Kind>(self) -> Stop
-        ensures { result.place ≡ pair_stop K.alphabet self.entry.place (drop self.entry.place self.entry.text.now) }
+        ensures { result.place ≡ pair_stop K.alphabet self.entry.place (ahead self.entry) }
     {
         match self.split_first() {
             Some((first, behind)) if begins_pair::<K>(first) => behind.stop(),
@@ -227,7 +239,8 @@ impl<'t> Cursor<'t> {
 
     // The longest run from here on, of one literal or more, with the cursor behind it.
     fn run<K: Kind>(self) -> Result<(RunText<'t>, Cursor<'t>), Stop>
-        ensures { MatchResult result (RunBehind K.alphabet self.entry) (λ stop. (pairs K.alphabet (drop self.entry.place self.entry.text.now) ≡ 0) × (stop.place ≡ pair_stop K.alphabet self.entry.place (drop self.entry.place self.entry.text.now))) }
+        ensures { MatchResult result (RunBehind K.alphabet self.entry)
+            (NoPair K.alphabet self.entry) }
     {
         let mut end = self;
         while let Some((_, later)) = end.pair::<K>() {
@@ -241,9 +254,9 @@ impl<'t> Cursor<'t> {
         Ok((RunText { text, place }, end))
     }
 
-    // The cursor behind a character that has to stand behind a run, where the run might go on in its place.
+    // The cursor behind a character that has to stand behind a run, unless the run goes on.
     fn end_run<K: Kind>(self, c: u8) -> Result<Cursor<'t>, Stop>
-        ensures { MatchResult result (Passes self.entry c) (λ stop. (standing self.entry.text.now self.entry.place c ≡ false) × (stop.place ≡ pair_stop K.alphabet self.entry.place (drop self.entry.place self.entry.text.now))) }
+        ensures { MatchResult result (Passes self.entry c) (NoEnd K.alphabet self.entry c) }
     {
         match self.past(c) {
             Some(later) => Ok(later),
@@ -253,7 +266,8 @@ impl<'t> Cursor<'t> {
 
     // A group of two runs or more behind its opening parenthesis, with the cursor behind it.
     fn group<K: Kind>(self) -> Result<(RunsText<'t>, Cursor<'t>), Stop>
-        ensures { MatchResult result (Behind self.entry (CompletesGroup K.alphabet self.entry.text.now self.entry.place)) (λ stop. Stops K.alphabet self.entry.text.now (alternatives [] []) self.entry.place stop.place) }
+        ensures { MatchResult result (GroupBehind K.alphabet self.entry)
+            (Refuses K.alphabet self.entry (alternatives [] [])) }
     {
         let (_, first_end) = self.run::<K>()?;
         let mut next = first_end.end_run::<K>(b'|')?;
@@ -273,7 +287,8 @@ impl<'t> Cursor<'t> {
 
     // A range, or what one run leaves out, behind its opening bracket, with the cursor behind it.
     fn range<K: Kind>(self) -> Result<(Token<'t>, Cursor<'t>), Stop>
-        ensures { MatchResult result (Behind self.entry (CompletesAs K.alphabet self.entry.text.now bracket 1 self.entry.place)) (λ stop. Stops K.alphabet self.entry.text.now bracket self.entry.place stop.place) }
+        ensures { MatchResult result (RangeBehind K.alphabet self.entry bracket 1)
+            (Refuses K.alphabet self.entry bracket) }
     {
         match self.past(b'!') {
             Some(later) => later.bounds::<K>(false),
@@ -283,7 +298,9 @@ impl<'t> Cursor<'t> {
 
     // The runs of a range, inside or not, behind what opens it, with the cursor behind the range.
     fn bounds<K: Kind>(self, inside: bool) -> Result<(Token<'t>, Cursor<'t>), Stop>
-        ensures { MatchResult result (Behind self.entry (CompletesAs K.alphabet self.entry.text.now (low_run inside []) (opening inside) self.entry.place)) (λ stop. Stops K.alphabet self.entry.text.now (low_run inside []) self.entry.place stop.place) }
+        ensures { MatchResult result
+            (RangeBehind K.alphabet self.entry (low_run inside []) (opening inside))
+            (Refuses K.alphabet self.entry (low_run inside [])) }
     {
         let (low, low_end) = self.run::<K>()?;
         if !inside {
@@ -299,7 +316,10 @@ impl<'t> Cursor<'t> {
 
     // A number of one to four digits, with the cursor behind it.
     fn number(self) -> Result<(u16, Cursor<'t>), Stop>
-        ensures { MatchResult result (Behind self.entry (LongestNumber self.entry.text.now self.entry.place)) (λ stop. NoDigit self.entry.text.now self.entry.place × (stop.place ≡ self.entry.place)) }
+        ensures { MatchResult result
+            (Behind self.entry (LongestNumber self.entry.text.now self.entry.place))
+            (λ stop. NoDigit self.entry.text.now self.entry.place
+            × (stop.place ≡ self.entry.place)) }
     {
         let Cursor { text, place } = self;
         let rest = &text[place..];
@@ -317,7 +337,8 @@ impl<'t> Cursor<'t> {
 
     // A gap behind its opening brace, with the cursor behind it.
     fn braces<K: Kind>(self) -> Result<(Gap, Cursor<'t>), Stop>
-        ensures { MatchResult result (Behind self.entry (CompletesGap K.alphabet self.entry.text.now (digits lower 0 0) self.entry.place)) (λ stop. Stops K.alphabet self.entry.text.now (digits lower 0 0) self.entry.place stop.place) }
+        ensures { MatchResult result (GapBehind K.alphabet self.entry (digits lower 0 0))
+            (Refuses K.alphabet self.entry (digits lower 0 0)) }
     {
         let (least, end) = self.number()?;
         if let Some(upper) = end.past(b'-') {
@@ -330,7 +351,8 @@ impl<'t> Cursor<'t> {
 
     // A gap behind the dash after its least length, with the cursor behind it.
     fn upper_end<K: Kind>(self, least: u16) -> Result<(Gap, Cursor<'t>), Stop>
-        ensures { MatchResult result (Behind self.entry (CompletesGap K.alphabet self.entry.text.now (digits (upper least) 0 0) self.entry.place)) (λ stop. Stops K.alphabet self.entry.text.now (digits (upper least) 0 0) self.entry.place stop.place) }
+        ensures { MatchResult result (GapBehind K.alphabet self.entry (digits (upper least) 0 0))
+            (Refuses K.alphabet self.entry (digits (upper least) 0 0)) }
     {
         let (most, end) = if let Some(end) = self.past(b'*') {
             (None, end)
@@ -344,8 +366,10 @@ impl<'t> Cursor<'t> {
 
     // A gap where one may stand, with the cursor behind it.
     fn gap<K: Kind>(self, position: Position) -> Result<(Token<'t>, Cursor<'t>), Stop>
-        requires { (standing self.text.now self.place 42 ≡ true) ⊎ (standing self.text.now self.place 123 ≡ true) }
-        ensures { MatchResult result (Behind self.entry (Lexes K.alphabet self.entry.text.now (position_in position) self.entry.place)) (λ stop. Stops K.alphabet self.entry.text.now (between_items (position_in position)) self.entry.place stop.place) }
+        requires { (standing self.text.now self.place 42 ≡ true)
+            ⊎ (standing self.text.now self.place 123 ≡ true) }
+        ensures { MatchResult result (TokenBehind K.alphabet self.entry (position_in position))
+            (Refuses K.alphabet self.entry (between_items (position_in position))) }
     {
         if !position.gap_allowed() {
             return Err(self.stop());
@@ -369,7 +393,8 @@ impl<'t> Cursor<'t> {
 
     // The next token in a position, with the cursor behind it.
     fn token<K: Kind>(self, position: Position) -> Result<(Token<'t>, Cursor<'t>), Stop>
-        ensures { MatchResult result (Behind self.entry (Lexes K.alphabet self.entry.text.now (position_in position) self.entry.place)) (λ stop. Stops K.alphabet self.entry.text.now (between_items (position_in position)) self.entry.place stop.place) }
+        ensures { MatchResult result (TokenBehind K.alphabet self.entry (position_in position))
+            (Refuses K.alphabet self.entry (between_items (position_in position))) }
     {
         let Some((first, behind)) = self.split_first() else {
             return Err(self.stop());

@@ -14,7 +14,8 @@ use crate::token::{Cursor, Gap, RunsText, Token};
 use kinds::Kind;
 use patterns::Direction;
 
-// The items of tokens, put behind those of a pattern. A text has at most 200 characters, two for each code.
+// Puts the items of tokens behind those of a pattern. A text has at most 200 characters, two for
+// each code.
 impl Pattern {
     // Puts the codes of a run behind the others.
     fn push_codes<K: Kind>(&mut self, run: &[u8]) -> Run
@@ -38,10 +39,13 @@ impl Pattern {
     fn push_group<K: Kind>(&mut self, group: RunsText) -> Part
         requires codes { 2 * length self.old.codes.items + length group.text.now ≤ 200 }
         requires runs { length self.old.runs.items + length (between_bars group.text.now) ≤ 66 }
-        ensures codes { 2 * length self.new.codes.items ≤ 2 * length self.old.codes.items + length group.entry.text.now }
-        ensures runs { length self.new.runs.items ≡ length self.old.runs.items + length (between_bars group.entry.text.now) }
+        ensures codes { 2 * length self.new.codes.items
+            ≤ 2 * length self.old.codes.items + length group.entry.text.now }
+        ensures runs { length self.new.runs.items
+            ≡ length self.old.runs.items + length (between_bars group.entry.text.now) }
         ensures items { held self.new ≡ held self.old }
-        ensures part { item_in self.new result ≡ item.group (runs_in K.alphabet group.entry.text.now) }
+        ensures part { item_in self.new result
+            ≡ item.group (runs_in K.alphabet group.entry.text.now) }
         ensures within { HasPart self.new result }
     {
         let first = self.runs.len() as u8;
@@ -62,7 +66,8 @@ impl Pattern {
         requires place { place + length run.now ≤ 200 }
         ensures codes { self.new.codes.items ≡ self.old.codes.items }
         ensures runs { self.new.runs.items ≡ self.old.runs.items }
-        ensures items { held self.new ≡ held self.old ++ literals_at place (codes_in K.alphabet run.now) }
+        ensures items { held self.new
+            ≡ held self.old ++ literals_at place (codes_in K.alphabet run.now) }
     {
         let mut next = Cursor::new(run);
         while let Some((element, later)) = next.pair::<K>() {
@@ -85,13 +90,18 @@ impl Pattern {
 
     // Puts the items of a token that begins at a place behind the others.
     fn push_token<K: Kind>(&mut self, place: usize, token: Token)
-        requires parts { length (held self.old) + length (items_at K.alphabet place (lexeme_in token)) ≤ 199 }
-        requires codes { 2 * length self.old.codes.items + length (written (lexeme_in token)) ≤ 200 }
+        requires parts { length (held self.old)
+            + length (items_at K.alphabet place (lexeme_in token)) ≤ 199 }
+        requires codes { 2 * length self.old.codes.items
+            + length (written (lexeme_in token)) ≤ 200 }
         requires runs { length self.old.runs.items + run_count (lexeme_in token) ≤ 66 }
         requires place { place + length (written (lexeme_in token)) ≤ 200 }
-        ensures codes { 2 * length self.new.codes.items ≤ 2 * length self.old.codes.items + length (written (lexeme_in token.entry)) }
-        ensures runs { length self.new.runs.items ≡ length self.old.runs.items + run_count (lexeme_in token.entry) }
-        ensures items { held self.new ≡ held self.old ++ items_at K.alphabet place (lexeme_in token.entry) }
+        ensures codes { 2 * length self.new.codes.items
+            ≤ 2 * length self.old.codes.items + length (written (lexeme_in token.entry)) }
+        ensures runs { length self.new.runs.items
+            ≡ length self.old.runs.items + run_count (lexeme_in token.entry) }
+        ensures items { held self.new
+            ≡ held self.old ++ items_at K.alphabet place (lexeme_in token.entry) }
     {
         match token {
             Token::Literals(run) => self.push_literals::<K>(place, run.text),
@@ -104,7 +114,15 @@ impl Pattern {
                 let direction = Direction::FirstOn;
                 let low = self.push_codes::<K>(low.text);
                 let high = self.push_codes::<K>(high.text);
-                self.push_at(place, Part::Range { direction, inside, low, high });
+                self.push_at(
+                    place,
+                    Part::Range {
+                        direction,
+                        inside,
+                        low,
+                        high,
+                    },
+                );
             }
             Token::Other(run) => {
                 let run = self.push_codes::<K>(run.text);
@@ -129,7 +147,7 @@ fn refusal(sequence: u8, stop: Stop) -> Fault
     }
 }
 
-/// Reads a pattern text into its items. The number of its sequence goes with it for a refusal alone.
+/// Reads a pattern text into its items. The number of its sequence is for a refusal alone.
 pub(crate) fn read<K: Kind>(sequence: u8, text: PatternText) -> Result<Pattern, Fault>
     ensures { Read K.alphabet text.entry.characters.now sequence result }
 {

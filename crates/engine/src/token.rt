@@ -31,7 +31,7 @@ pub struct RunsText<'t> {
     ghost fits: { place + length text.now < 2 ^ 64 },
 }
 
-/// A token: neighbouring literals, or one other item of a pattern, with the parts of the text that it takes.
+/// A token: neighbouring literals, or one other item of a pattern, with its parts of the text.
 #[derive(Clone, Copy)]
 pub enum Token<'t> {
     Literals(RunText<'t>),

@@ -1,7 +1,6 @@
-use Rattle.std.proofs.Common.{◌≡◌, ◌+◌, ◌*◌, ◌<◌, ◌≤◌, ◌∷◌, length, Some, sym, refl, ap, ◌∙◌, subst, arith}
+use Rattle.std.proofs.Common.{length, ap, ◌∙◌, subst, arith}
 use Rattle.engine.specs.Tokens.{between_bars}
-use Rattle.engine.proofs.Groups.{Grouped, left_of, split_left, grouped_more, total, total_bars}
-use Rattle.engine.proofs.pattern.Pattern.push_group.Given as given
+use Rattle.engine.proofs.Groups.{Grouped, left_of, split_left, grouped_more, total_bars}
 use Rattle.engine.proofs.pattern.Pattern.push_group.Goals as goal
 
 pub push_codes-run-requires : goal.push_codes-run-requires

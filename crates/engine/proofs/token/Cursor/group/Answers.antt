@@ -1,12 +1,12 @@
-use Rattle.std.proofs.Common.{◌≡◌, ℕ, ◌+◌, ◌-◌, ◌<◌, [], drop, take, sym, refl, ap, ◌∙◌, subst, arith}
+use Rattle.std.proofs.Common.{◌≡◌, ◌-◌, [], sym, refl, ap, ◌∙◌, subst, arith}
 use Rattle.std.proofs.lemmas.Result.{err_from_is_err_and}
 use Rattle.patterns.specs.Patterns as item
 use Rattle.patterns.specs.Reader.{alternatives}
 use Rattle.engine.specs.Scanning.{Completes}
-use Rattle.engine.specs.Tokens.{slice, runs_slice}
+use Rattle.engine.specs.Tokens.{slice}
 use Rattle.engine.proofs.Cursors.{passed_at, none_at, run_at, no_pair_at, no_end_at}
 use Rattle.engine.proofs.Gaps.{stands_true}
-use Rattle.engine.proofs.Lexing.{Alternating, group_begun, group_alone, group_more, group_done, group_stops, group_none, group_empty}
+use Rattle.engine.proofs.Lexing.{group_begun, group_alone, group_more, group_done, group_stops, group_none, group_empty}
 use Rattle.engine.proofs.token.Cursor.group.Goals as goal
 
 pub returns-in_err-first_end : goal.returns-in_err-first_end

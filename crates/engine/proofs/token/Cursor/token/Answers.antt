@@ -1,4 +1,4 @@
-use Rattle.std.proofs.Common.{◌≡◌, ◌+◌, length, get_or, refl, ap, ◌∙◌, sym}
+use Rattle.std.proofs.Common.{◌+◌, refl, ap, ◌∙◌, sym}
 use Rattle.std.proofs.Math.Path.{subst₂}
 use Rattle.std.proofs.lemmas.Result.{MatchResult-weaker}
 use Rattle.patterns.specs.Patterns as item
@@ -31,9 +31,9 @@ returns-in-91 g c =
     let opens = range_opens a g.met.K.Kind.lawful t (position_in c.args.position) place (stands t place 91 first.0 (sym first.1 ∙ c.in-91.is)) in
     MatchResult-weaker c.range.result c.range.ensures
     (λ x h.
-        let found = subst₂ (λ l n. CompletesAs a l bracket 1 n (x.0, x.1.place)) first.2 first.3 h.1 in
-        let token = found.2.2 place refl in
-        (h.0 ∙ first.2, (found.2.0, x.1.place, opens ∙ found.2.1, token.0, token.1)))
+    let found = subst₂ (λ l n. CompletesAs a l bracket 1 n (x.0, x.1.place)) first.2 first.3 h.1 in
+    let token = found.2.2 place refl in
+    (h.0 ∙ first.2, (found.2.0, x.1.place, opens ∙ found.2.1, token.0, token.1)))
     (λ stop h. opens ∙ subst₂ (λ l n. Stops a l bracket n stop.place) first.2 first.3 h)
 
 pub returns-in_ok-run-in_default-first : goal.returns-in_ok-run-in_default-first

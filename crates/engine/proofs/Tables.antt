@@ -1,5 +1,5 @@
 -- Slots of a table: which are free, what stands in one, and what setting and freeing them changes.
-use Rattle.std.proofs.Common.{◌≡◌, ℕ, zero, suc, ◌+◌, ◌-◌, ◌<◌, ◌≤◌, Bool, true, false, cond, ltb, List, [], ◌∷◌, ◌++◌, map, length, set, get_or, take, replicate, Some, None, Option, zero-add, sym, refl, ap, ◌∙◌, subst, ⊎_elim, arith}
+use Rattle.std.proofs.Common.{◌≡◌, ℕ, zero, suc, ◌+◌, ◌<◌, ◌≤◌, cond, ltb, List, [], ◌∷◌, ◌++◌, map, length, set, get_or, take, replicate, Some, None, Option, zero-add, sym, refl, ap, ◌∙◌, subst, ⊎_elim, arith}
 use Rattle.std.specs.List.{slice_get, filter, position, position_or_len, Contains}
 use Rattle.std.specs.Option.{is_none, option_map, option_and_then}
 use Rattle.std.proofs.lemmas.List.{set-set, length_push, length-take, length-map, replicate_more, append-nil, append_assoc, map-append, get_or-take, take_at}
@@ -8,16 +8,14 @@ use Rattle.std.proofs.lemmas.Option.{none-some, slice_get-get_or, slice_get_with
 use Rattle.kinds.proofs.Places.{nth_none}
 use Rattle.patterns.specs.Fragments as spec
 use Rattle.patterns.specs.Fragments.{fragments, oriented}
-use Rattle.patterns.specs.Patterns.{least_offset}
 use Rattle.engine.specs.Reading.{held}
 use Rattle.engine.specs.Said.{Said, said, parts, HoldsOwn, HoldsAt}
-use Rattle.engine.specs.Searched.{HoldsEach, HoldsIf}
+use Rattle.engine.specs.Searched.{HoldsIf}
 use Rattle.engine.specs.Sequences.{parts_said}
 use Rattle.engine.specs.Tables.{free_from, free_slots, at_slot, at_slots, cleared, Slotted, StandsIn, Moved, Apart}
 use Rattle.engine.specs.declared.fragment.Fragment.{Fragment}
 use Rattle.engine.specs.declared.oriented.Oriented.{Oriented}
-use Rattle.engine.proofs.Shows.{counted, held_each}
-use Rattle.engine.proofs.Sounds.{oriented_twice}
+use Rattle.engine.proofs.Shows.{counted, held_each, holds_said}
 
 -- the first of a list
 head_is : (l : List ℕ) (s : ℕ) → slice_get l 0 ≡ Some s → (rest : List ℕ) × (l ≡ s ∷ rest)
@@ -239,10 +237,6 @@ module _ {X : Type 0} where
       let tail : map (at_slot t) ss ≡ map Some xs = cc in
       at_each t ss xs tail k
 
--- where a sequence stands in a table, its fragments are found by their numbers
-pub stands_at : (o : Oriented) (t : List (Option Fragment)) (slots : List ℕ) → StandsIn t (record { said = said o; slots = slots }) → HoldsAt o (at_slots t slots)
-stands_at o t slots h = subst (λ qs. HoldsEach o.reference qs (at_slots t slots) (fragments (least_offset o.reference) qs)) (oriented_twice o.reference (held o.pattern)) h.holds
-
 -- a sequence whose fragments have been put into slots stands in them
 stands_in : (o : Oriented) (fs : List Fragment) → HoldsOwn o fs → (before t : List (Option Fragment)) (slots : List ℕ) → Filling before fs t slots
     → StandsIn t (record { said = said o; slots = slots })
@@ -251,7 +245,7 @@ stands_in o fs own before t slots f =
     λ k. subst (λ x. HoldsIf o.reference (held o.pattern) x (slice_get (parts o) k)) (sym (at_each t slots fs f.stand k)) (held_each o fs own k) in
     record {
       counted = filling_long before fs t slots f ∙ counted o fs own;
-      holds = subst (λ qs. HoldsEach o.reference qs (at_slots t slots) (fragments (least_offset o.reference) qs)) (sym (oriented_twice o.reference (held o.pattern))) each;
+      holds = holds_said o (at_slots t slots) each;
     }
 
 -- it is moved into the table

@@ -2,10 +2,8 @@
 use Rattle.std.specs.Prelude.{◌≡◌, ℕ, suc, ◌<◌, List, [], ◌∷◌, length, take, Some, None, Ok, Err, Option, Result, slice_set}
 use Rattle.std.specs.List.{slice_get, Contains}
 use Rattle.std.specs.Option.{option_and_then, option_flatten}
-use Rattle.patterns.specs.Fragments.{oriented}
 use Rattle.engine.specs.Said.{Said}
-use Rattle.engine.specs.Searched.{HoldsEach}
-use Rattle.engine.specs.Sequences.{parts_said}
+use Rattle.engine.specs.Sequences.{parts_said, HoldsSaid}
 use Rattle.engine.specs.declared.fragment.Fragment.{Fragment}
 
 -- the numbers of the free slots, rising, the first slot having a number
@@ -39,7 +37,7 @@ pub record Slotted : Type 0 where
 -- The fragments of a sequence stand in its slots of a table.
 pub record StandsIn (table : List (Option Fragment)) (v : Slotted) : Type 0 where
   pub counted : length v.slots ≡ length (parts_said v.said)
-  pub holds : HoldsEach v.said.reference (oriented v.said.reference v.said.items) (at_slots table v.slots) (parts_said v.said)
+  pub holds : HoldsSaid v.said (at_slots table v.slots)
 
 -- A sequence is moved into a table: its fragments stand in the first free slots, and with these freed the table is as it was.
 pub record Moved (s : Said) (before after : List (Option Fragment)) (v : Slotted) : Type 0 where

@@ -10,7 +10,7 @@ ghost use Rattle.patterns.specs.Patterns.{hits as hits_by_rule, Placement};
 use crate::fragment::Fragment;
 use crate::limits::MOST_FRAGMENTS;
 use crate::oriented::Oriented;
-use crate::search::{Fragments, found};
+use crate::search::{Fragments, found, numbers};
 use crate::sequence::Sequence;
 use arrayvec::ArrayVec;
 use kinds::kind::Kind;
@@ -193,13 +193,7 @@ impl<K: Kind> InTable<K> {
             table,
             slots: self.slots.as_slice(),
         };
-        let fragment = fragments.get(fragment.checked_sub(1)?)?;
-        Some((
-            fragment.gap_before(),
-            fragment.lead(),
-            fragment.anchor_len(),
-            fragment.shift(index),
-        ))
+        numbers(&fragments, fragment, index)
     }
 
     /// Whether the sequence hits a reading: the decision of the rule, which is true exactly when a placement exists.

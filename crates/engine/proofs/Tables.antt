@@ -218,11 +218,6 @@ module _ {X : Type 0} where
             ∙ sym (map-append Some xs (x ∷ []));
       }
 
-  -- all of them, once none is left
-  pub filling_all : (before : List (Option X)) (xs rest all : List X) (t : List (Option X)) (slots : List ℕ)
-      → rest ≡ [] → xs ++ rest ≡ all → Filling before xs t slots → Filling before all t slots
-  filling_all before xs rest all t slots none is f = subst (λ l. Filling before l t slots) (sym (append-nil xs) ∙ ap (λ l. xs ++ l) (sym none) ∙ is) f
-
   -- there are as many slots as elements
   pub filling_long : (before : List (Option X)) (xs : List X) (t : List (Option X)) (slots : List ℕ) → Filling before xs t slots → length slots ≡ length xs
   filling_long before xs t slots f = sym (length-map slots (at_slot t)) ∙ ap length f.stand ∙ length-map xs Some
@@ -248,15 +243,17 @@ stands_in o fs own before t slots f =
       holds = holds_said o (at_slots t slots) each;
     }
 
--- it is moved into the table
-pub moved : (o : Oriented) (fs : List Fragment) → HoldsOwn o fs → (before t : List (Option Fragment)) (slots : List ℕ) → Filling before fs t slots
-    → Moved (said o) before t (record { said = said o; slots = slots })
-moved o fs own before t slots f =
-    let long = filling_long before fs t slots f ∙ counted o fs own in
+-- once the last of its fragments has been put into a slot, it is moved into the table
+pub moved : (o : Oriented) (fs : List Fragment) → HoldsOwn o fs → {before t : List (Option Fragment)} {slots : List ℕ} {so_far rest : List Fragment}
+    → Filling before so_far t slots → so_far ++ rest ≡ fs → rest ≡ [] → Moved (said o) before t (record { said = said o; slots = slots })
+moved o fs own {before} {t} {slots} {so_far} {rest} f is none =
+    let all : so_far ≡ fs = sym (append-nil so_far) ∙ ap (λ l. so_far ++ l) (sym none) ∙ is in
+    let put = subst (λ l. Filling before l t slots) all f in
+    let long = filling_long before fs t slots put ∙ counted o fs own in
     record {
       same = refl;
       first = sym (take_at slots (free_slots t) _ long) ∙ ap (take (length (parts_said (said o)))) f.free;
-      stands = stands_in o fs own before t slots f;
+      stands = stands_in o fs own before t slots put;
       others = f.freed;
     }
 
@@ -303,6 +300,10 @@ apart_moved s before after v w h m slot (k, inside, e) there =
     let (f, is) = stands_slot v before h k slot at in
     let free = none_at_free (length (parts_said s)) before slot (subst (λ l. Contains l slot) m.first there) in
     none-some f (sym free ∙ is)
+
+-- slots that are apart are so in either order
+pub apart_sym : (some others : List ℕ) → Apart some others → Apart others some
+apart_sym some others apart slot there here = apart slot here there
 
 -- a sequence that stands in a table stands in it still once other slots are cleared
 pub stands_cleared : (t : List (Option Fragment)) (v : Slotted) (slots : List ℕ) → StandsIn t v → Apart v.slots slots → StandsIn (cleared t slots) v

@@ -56,7 +56,7 @@ impl Table {
         self.slots.get(slot)?.as_ref()
     }
 
-    /// Puts a fragment into a slot, in place of what stands there.
+    /// Puts a fragment into a slot, in place of what stands there. A slot past the last is none, and nothing changes.
     pub fn set(&mut self, slot: usize, fragment: Fragment)
         ensures { self.new ≡ slice_set self.old slot (Some fragment) }
     {
@@ -65,7 +65,7 @@ impl Table {
         }
     }
 
-    /// Frees a slot.
+    /// Frees a slot. A slot past the last is none, and nothing changes.
     pub fn clear(&mut self, slot: usize)
         ensures { self.new ≡ slice_set self.old slot None }
     {
@@ -88,7 +88,7 @@ impl Table {
         self.slots.iter().filter(|slot| slot.is_none()).count()
     }
 
-    // Puts a fragment into the first free slot, and answers the slot.
+    // Puts a fragment into the first free slot, and gives the slot.
     fn fill(&mut self, fragment: Fragment) -> u8
         requires { 0 < length (free_slots self.old) }
         ensures first { slice_get (free_slots self.old) 0 ≡ Some result }
@@ -102,7 +102,8 @@ impl Table {
     }
 }
 
-/// A compiled sequence over elements of a kind whose fragments stand in a table.
+/// A compiled sequence over elements of a kind whose fragments stand in a table. It answers as the sequence on its own
+/// does, as long as it is given that table, and its slots there have not been set or freed since.
 #[derive(Drop)]
 pub struct InTable<K> {
     oriented: Oriented,
@@ -144,8 +145,8 @@ impl Fragments for Standing<'_> {
 impl<K: Kind> Sequence<K> {
     ghost use Rattle.engine.specs.Tables.{MovedOrNot};
 
-    /// Moves the fragments into the first free slots of a table. Where there are too few, answers the sequence and leaves
-    /// the table as it is.
+    /// Moves the fragments into the first free slots of a table. Where there are too few, gives the sequence back and
+    /// leaves the table as it is.
     pub fn into_table(self, table: &mut Table) -> Result<InTable<K>, Sequence<K>>
         ensures { MovedOrNot self table.old table.new result }
     {
@@ -198,8 +199,12 @@ impl<K: Kind> InTable<K> {
 
     /// Whether the sequence hits a reading: the decision of the rule, which is true exactly when a placement exists.
     pub fn hits<R: Reading<Element = K>>(&self, table: &Table, reading: &R) -> bool
-        ensures decision { StandsIn table.now self.now → result ≡ hits_by_rule self.now.said.reference (bodies self.now.said.items) (codes_of K.alphabet (R.elements reading.now)) }
-        ensures placement { StandsIn table.now self.now → IsTrue result ↔ Placement self.now.said.reference (bodies self.now.said.items) (codes_of K.alphabet (R.elements reading.now)) }
+        ensures decision { StandsIn table.now self.now
+            → result ≡ hits_by_rule self.now.said.reference (bodies self.now.said.items)
+            (codes_of K.alphabet (R.elements reading.now)) }
+        ensures placement { StandsIn table.now self.now
+            → IsTrue result ↔ Placement self.now.said.reference (bodies self.now.said.items)
+            (codes_of K.alphabet (R.elements reading.now)) }
     {
         let fragments = Standing {
             table,
@@ -208,7 +213,7 @@ impl<K: Kind> InTable<K> {
         found(&self.oriented, &fragments, reading)
     }
 
-    /// Frees the slots of the sequence's fragments. No other slot changes.
+    /// Frees the slots of the sequence's fragments, whatever stands there. No other slot changes.
     pub fn clear(self, table: &mut Table)
         ensures { table.new ≡ cleared table.old self.slots }
     {

@@ -1,5 +1,5 @@
 -- Slots of a table: which are free, what stands in one, and what setting and freeing them changes.
-use Rattle.std.proofs.Common.{◌≡◌, ℕ, zero, suc, ◌+◌, ◌-◌, ◌<◌, ◌≤◌, Bool, true, false, cond, ltb, List, [], ◌∷◌, ◌++◌, map, length, set, get_or, take, replicate, Some, None, Option, zero-add, sym, refl, ap, ◌∙◌, subst, ⊎_elim, arith}
+use Rattle.std.proofs.Common.{◌≡◌, ℕ, zero, suc, ◌+◌, ◌<◌, ◌≤◌, cond, ltb, List, [], ◌∷◌, ◌++◌, map, length, set, get_or, take, replicate, Some, None, Option, zero-add, sym, refl, ap, ◌∙◌, subst, ⊎_elim, arith}
 use Rattle.std.specs.List.{slice_get, filter, position, position_or_len, Contains}
 use Rattle.std.specs.Option.{is_none, option_map, option_and_then}
 use Rattle.std.proofs.lemmas.List.{set-set, length_push, length-take, length-map, replicate_more, append-nil, append_assoc, map-append, get_or-take, take_at}
@@ -8,16 +8,14 @@ use Rattle.std.proofs.lemmas.Option.{none-some, slice_get-get_or, slice_get_with
 use Rattle.kinds.proofs.Places.{nth_none}
 use Rattle.patterns.specs.Fragments as spec
 use Rattle.patterns.specs.Fragments.{fragments, oriented}
-use Rattle.patterns.specs.Patterns.{least_offset}
 use Rattle.engine.specs.Reading.{held}
 use Rattle.engine.specs.Said.{Said, said, parts, HoldsOwn, HoldsAt}
-use Rattle.engine.specs.Searched.{HoldsEach, HoldsIf}
+use Rattle.engine.specs.Searched.{HoldsIf}
 use Rattle.engine.specs.Sequences.{parts_said}
 use Rattle.engine.specs.Tables.{free_from, free_slots, at_slot, at_slots, cleared, Slotted, StandsIn, Moved, Apart}
 use Rattle.engine.specs.declared.fragment.Fragment.{Fragment}
 use Rattle.engine.specs.declared.oriented.Oriented.{Oriented}
-use Rattle.engine.proofs.Shows.{counted, held_each}
-use Rattle.engine.proofs.Sounds.{oriented_twice}
+use Rattle.engine.proofs.Shows.{counted, held_each, holds_said}
 
 -- the first of a list
 head_is : (l : List ℕ) (s : ℕ) → slice_get l 0 ≡ Some s → (rest : List ℕ) × (l ≡ s ∷ rest)
@@ -220,11 +218,6 @@ module _ {X : Type 0} where
             ∙ sym (map-append Some xs (x ∷ []));
       }
 
-  -- all of them, once none is left
-  pub filling_all : (before : List (Option X)) (xs rest all : List X) (t : List (Option X)) (slots : List ℕ)
-      → rest ≡ [] → xs ++ rest ≡ all → Filling before xs t slots → Filling before all t slots
-  filling_all before xs rest all t slots none is f = subst (λ l. Filling before l t slots) (sym (append-nil xs) ∙ ap (λ l. xs ++ l) (sym none) ∙ is) f
-
   -- there are as many slots as elements
   pub filling_long : (before : List (Option X)) (xs : List X) (t : List (Option X)) (slots : List ℕ) → Filling before xs t slots → length slots ≡ length xs
   filling_long before xs t slots f = sym (length-map slots (at_slot t)) ∙ ap length f.stand ∙ length-map xs Some
@@ -239,10 +232,6 @@ module _ {X : Type 0} where
       let tail : map (at_slot t) ss ≡ map Some xs = cc in
       at_each t ss xs tail k
 
--- where a sequence stands in a table, its fragments are found by their numbers
-pub stands_at : (o : Oriented) (t : List (Option Fragment)) (slots : List ℕ) → StandsIn t (record { said = said o; slots = slots }) → HoldsAt o (at_slots t slots)
-stands_at o t slots h = subst (λ qs. HoldsEach o.reference qs (at_slots t slots) (fragments (least_offset o.reference) qs)) (oriented_twice o.reference (held o.pattern)) h.holds
-
 -- a sequence whose fragments have been put into slots stands in them
 stands_in : (o : Oriented) (fs : List Fragment) → HoldsOwn o fs → (before t : List (Option Fragment)) (slots : List ℕ) → Filling before fs t slots
     → StandsIn t (record { said = said o; slots = slots })
@@ -251,18 +240,20 @@ stands_in o fs own before t slots f =
     λ k. subst (λ x. HoldsIf o.reference (held o.pattern) x (slice_get (parts o) k)) (sym (at_each t slots fs f.stand k)) (held_each o fs own k) in
     record {
       counted = filling_long before fs t slots f ∙ counted o fs own;
-      holds = subst (λ qs. HoldsEach o.reference qs (at_slots t slots) (fragments (least_offset o.reference) qs)) (sym (oriented_twice o.reference (held o.pattern))) each;
+      holds = holds_said o (at_slots t slots) each;
     }
 
--- it is moved into the table
-pub moved : (o : Oriented) (fs : List Fragment) → HoldsOwn o fs → (before t : List (Option Fragment)) (slots : List ℕ) → Filling before fs t slots
-    → Moved (said o) before t (record { said = said o; slots = slots })
-moved o fs own before t slots f =
-    let long = filling_long before fs t slots f ∙ counted o fs own in
+-- once the last of its fragments has been put into a slot, it is moved into the table
+pub moved : (o : Oriented) (fs : List Fragment) → HoldsOwn o fs → {before t : List (Option Fragment)} {slots : List ℕ} {so_far rest : List Fragment}
+    → Filling before so_far t slots → so_far ++ rest ≡ fs → rest ≡ [] → Moved (said o) before t (record { said = said o; slots = slots })
+moved o fs own {before} {t} {slots} {so_far} {rest} f is none =
+    let all : so_far ≡ fs = sym (append-nil so_far) ∙ ap (λ l. so_far ++ l) (sym none) ∙ is in
+    let put = subst (λ l. Filling before l t slots) all f in
+    let long = filling_long before fs t slots put ∙ counted o fs own in
     record {
       same = refl;
       first = sym (take_at slots (free_slots t) _ long) ∙ ap (take (length (parts_said (said o)))) f.free;
-      stands = stands_in o fs own before t slots f;
+      stands = stands_in o fs own before t slots put;
       others = f.freed;
     }
 
@@ -309,6 +300,10 @@ apart_moved s before after v w h m slot (k, inside, e) there =
     let (f, is) = stands_slot v before h k slot at in
     let free = none_at_free (length (parts_said s)) before slot (subst (λ l. Contains l slot) m.first there) in
     none-some f (sym free ∙ is)
+
+-- slots that are apart are so in either order
+pub apart_sym : (some others : List ℕ) → Apart some others → Apart others some
+apart_sym some others apart slot there here = apart slot here there
 
 -- a sequence that stands in a table stands in it still once other slots are cleared
 pub stands_cleared : (t : List (Option Fragment)) (v : Slotted) (slots : List ℕ) → StandsIn t v → Apart v.slots slots → StandsIn (cleared t slots) v

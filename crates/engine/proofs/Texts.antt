@@ -4,9 +4,9 @@ use Rattle.std.proofs.lemmas.Bool.{ltb-false}
 use Rattle.std.proofs.lemmas.List.{drop_all}
 use Rattle.std.specs.List.{flat_map}
 use Rattle.kinds.specs.Alphabet.{Alphabet, Lawful}
-use Rattle.kinds.specs.Grammar.{Placed, Position, start, may_end}
-use Rattle.kinds.specs.Patterns.{Item}
-use Rattle.kinds.specs.Reader.{between, follow}
+use Rattle.patterns.specs.Grammar.{Placed, Position, start, may_end}
+use Rattle.patterns.specs.Patterns.{Item}
+use Rattle.patterns.specs.Reader.{between, follow}
 use Rattle.engine.specs.Tokens.{Lexeme, written, behind_lexeme, item_from, lexeme_at, lexeme_of, lexed, token_before, tokens_from, TokensAreTheText}
 use Rattle.engine.proofs.Meanings.{prepended, same_token, token_means, stop_follows}
 use Rattle.engine.proofs.Tokens.{completes_takes}

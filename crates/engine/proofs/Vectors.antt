@@ -1,8 +1,8 @@
 -- The tokens of texts of bytes, by computation.
 use Rattle.std.proofs.Common.{◌≡◌, false, Some, None, Ok, Err, codes, refl}
 use Rattle.kinds.specs.Bytes.{byte_alphabet}
-use Rattle.kinds.specs.Grammar.{start, after_thing, after_gap}
-use Rattle.kinds.specs.Reader.{some_below}
+use Rattle.patterns.specs.Grammar.{start, after_thing, after_gap}
+use Rattle.patterns.specs.Reader.{some_below}
 use Rattle.engine.specs.Tokens.{literals, any, group, range, other, gap, lexed}
 
 two_literals : lexed byte_alphabet (codes "4142??") start 0 ≡ Ok (Some (literals (record { place = 0; text = codes "4142" })))

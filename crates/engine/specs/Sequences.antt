@@ -12,9 +12,11 @@ use Rattle.patterns.specs.declared.reference.Reference.{Reference}
 use Rattle.engine.specs.Limits.{refusal}
 use Rattle.engine.specs.Reading.{held}
 use Rattle.engine.specs.Said.{Said}
+use Rattle.engine.specs.Searched.{HoldsEach}
 use Rattle.engine.specs.declared.fault.Cause.{Cause}
 use Rattle.engine.specs.declared.fault.Cause.TheVariants.{Grammar}
 use Rattle.engine.specs.declared.fault.Fault.{Fault}
+use Rattle.engine.specs.declared.fragment.Fragment.{Fragment}
 use Rattle.engine.specs.declared.pattern.Pattern.{Pattern}
 
 -- the items of a text, or the cause and the place of its refusal
@@ -45,6 +47,10 @@ compiled a number r t =
 -- the fragments of a sequence, numbered in the order of its search
 abbrev pub parts_said : Said → List spec.Fragment
 parts_said s = fragments (least_offset s.reference) (oriented s.reference s.items)
+
+-- the compiled fragments, by their numbers from 0 on, hold the fragments of a sequence
+abbrev pub HoldsSaid : Said → (ℕ → Option Fragment) → Type 0
+HoldsSaid s at = HoldsEach s.reference (oriented s.reference s.items) at (parts_said s)
 
 -- break, lead, anchor length and the shift of an index
 abbrev pub numbers : Reference → ℕ → spec.Fragment → ℕ × ℕ × ℕ × ℕ

@@ -2,13 +2,11 @@
 use Rattle.std.specs.Prelude.{◌≡◌, ℕ, suc, ◌<◌, List, [], ◌∷◌, length, take, Some, None, Ok, Err, Option, Result, slice_set}
 use Rattle.std.specs.List.{slice_get, Contains}
 use Rattle.std.specs.Option.{option_and_then, option_flatten}
-use Rattle.patterns.specs.Fragments.{oriented}
 use Rattle.engine.specs.Said.{Said}
-use Rattle.engine.specs.Searched.{HoldsEach}
-use Rattle.engine.specs.Sequences.{parts_said}
+use Rattle.engine.specs.Sequences.{parts_said, HoldsSaid}
 use Rattle.engine.specs.declared.fragment.Fragment.{Fragment}
 
--- the numbers of the free slots, rising, the first slot having a number
+-- the numbers of the free slots, rising, where the slots are numbered from n on
 abbrev pub free_from : {X : Type 0} → ℕ → List (Option X) → List ℕ
 free_from n [] = []
 free_from n (None ∷ slots) = n ∷ free_from (suc n) slots
@@ -22,7 +20,7 @@ free_slots table = free_from 0 table
 abbrev pub at_slot : {X : Type 0} → List (Option X) → ℕ → Option X
 at_slot table slot = option_flatten (slice_get table slot)
 
--- what stands in the slot that has a place in a list of slots
+-- what stands in the slot at place k of a list of slots
 abbrev pub at_slots : {X : Type 0} → List (Option X) → List ℕ → ℕ → Option X
 at_slots table slots k = option_and_then (at_slot table) (slice_get slots k)
 
@@ -39,7 +37,7 @@ pub record Slotted : Type 0 where
 -- The fragments of a sequence stand in its slots of a table.
 pub record StandsIn (table : List (Option Fragment)) (v : Slotted) : Type 0 where
   pub counted : length v.slots ≡ length (parts_said v.said)
-  pub holds : HoldsEach v.said.reference (oriented v.said.reference v.said.items) (at_slots table v.slots) (parts_said v.said)
+  pub holds : HoldsSaid v.said (at_slots table v.slots)
 
 -- A sequence is moved into a table: its fragments stand in the first free slots, and with these freed the table is as it was.
 pub record Moved (s : Said) (before after : List (Option Fragment)) (v : Slotted) : Type 0 where
@@ -48,7 +46,7 @@ pub record Moved (s : Said) (before after : List (Option Fragment)) (v : Slotted
   pub stands : StandsIn after v
   pub others : cleared after v.slots ≡ before
 
--- A sequence is moved into a table, or the table has too few free slots for its fragments, and both are as they were.
+-- A sequence is moved into a table, or the table has too few free slots for its fragments, and both stay as they were.
 abbrev pub MovedOrNot : Said → List (Option Fragment) → List (Option Fragment) → Result Slotted Said → Type 0
 MovedOrNot s before after (Ok v) = Moved s before after v
 MovedOrNot s before after (Err t) = (length (free_slots before) < length (parts_said s)) × (t ≡ s) × (after ≡ before)

@@ -1,8 +1,9 @@
-//! Searches readings for compiled sequences.
+//! Searches readings for compiled sequences, and shows the numbers of their fragments.
 ghost use Rattle.std.specs.Prelude.{◌≡◌, ℕ, List, Option, Some, None};
 ghost use Rattle.std.specs.Option.{is_some, option_copied};
 ghost use Rattle.engine.specs.Codes.{codes_of};
-ghost use Rattle.engine.specs.Said.{end_in, hits_in, said, HoldsAt};
+ghost use Rattle.engine.specs.Said.{end_in, hits_in, said, Said, HoldsAt};
+ghost use Rattle.engine.specs.Sequences.{shown, HoldsSaid};
 ghost use Rattle.engine.specs.declared.fragment.Fragment.{Fragment as Compiled};
 
 use crate::find::least_end;
@@ -66,4 +67,22 @@ pub(crate) fn found<F: Fragments, R: Reading>(
         }
         Reference::Anywhere => last_end(sequence, fragments, reading, Starts::ANYWHERE).is_some(),
     }
+}
+
+// The numbers of a fragment: break, lead, length of the anchor, and the shift of an index; none where there is no such fragment.
+// Fragments are numbered from 1 here.
+pub(crate) fn numbers<F: Fragments>(
+    fragments: &F,
+    fragment: usize,
+    index: u8,
+) -> Option<(u32, u32, usize, u8)>
+    ensures { (s : Said) → HoldsSaid s (F.at fragments.now) → result ≡ shown s fragment index }
+{
+    let fragment = fragments.get(fragment.checked_sub(1)?)?;
+    Some((
+        fragment.gap_before(),
+        fragment.lead(),
+        fragment.anchor_len(),
+        fragment.shift(index),
+    ))
 }

@@ -7,7 +7,7 @@ use crate::fragment::Fragment;
 use crate::limits::MOST_FRAGMENTS;
 use crate::oriented::Oriented;
 use crate::pattern_text::PatternText;
-use crate::search::{Fragments, found};
+use crate::search::{Fragments, found, numbers};
 use arrayvec::ArrayVec;
 use kinds::{Kind, Reading};
 use patterns::Reference;
@@ -87,14 +87,10 @@ impl<K: Kind> Sequence<K> {
     pub fn numbers(&self, fragment: usize, index: u8) -> Option<(u32, u32, usize, u8)>
         ensures { result ≡ shown self.now fragment index }
     {
-        let fragments = self.fragments.as_slice();
-        let fragment = fragments.get(fragment.checked_sub(1)?)?;
-        Some((
-            fragment.gap_before(),
-            fragment.lead(),
-            fragment.anchor_len(),
-            fragment.shift(index),
-        ))
+        let fragments = Own {
+            fragments: self.fragments.as_slice(),
+        };
+        numbers(&fragments, fragment, index)
     }
 
     /// Whether the sequence hits a reading: the decision of the rule, which is true exactly when a

@@ -8,7 +8,7 @@ ghost use Rattle.engine.specs.Tables.{at_slot, free_slots};
 use crate::fragment::Fragment;
 use crate::limits::MOST_FRAGMENTS;
 use crate::oriented::Oriented;
-use crate::search::{Fragments, found};
+use crate::search::{Fragments, found, numbers};
 use crate::sequence::Sequence;
 use arrayvec::ArrayVec;
 use kinds::{Kind, Reading};
@@ -53,7 +53,7 @@ impl Table {
         self.slots.get(slot)?.as_ref()
     }
 
-    /// Puts a fragment into a slot, in place of what stands there.
+    /// Puts a fragment into a slot, in place of what stands there. A slot past the last is none, and nothing changes.
     pub fn set(&mut self, slot: usize, fragment: Fragment)
         ensures { self.new ≡ slice_set self.old slot (Some fragment) }
     {
@@ -62,7 +62,7 @@ impl Table {
         }
     }
 
-    /// Frees a slot.
+    /// Frees a slot. A slot past the last is none, and nothing changes.
     pub fn clear(&mut self, slot: usize)
         ensures { self.new ≡ slice_set self.old slot None }
     {
@@ -85,7 +85,7 @@ impl Table {
         self.slots.iter().filter(|slot| slot.is_none()).count()
     }
 
-    // Puts a fragment into the first free slot, and answers the slot.
+    // Puts a fragment into the first free slot, and gives the slot.
     fn fill(&mut self, fragment: Fragment) -> u8
         requires { 0 < length (free_slots self.old) }
         ensures first { slice_get (free_slots self.old) 0 ≡ Some result }
@@ -99,7 +99,8 @@ impl Table {
     }
 }
 
-/// A compiled sequence over elements of a kind whose fragments stand in a table.
+/// A compiled sequence over elements of a kind whose fragments stand in a table. It answers as the sequence on its own
+/// does, as long as it is given that table, and its slots there have not been set or freed since.
 #[derive(Drop)]
 pub struct InTable<K> {
     oriented: Oriented,
@@ -141,8 +142,8 @@ impl Fragments for Standing<'_> {
 impl<K: Kind> Sequence<K> {
     ghost use Rattle.engine.specs.Tables.{MovedOrNot};
 
-    /// Moves the fragments into the first free slots of a table. Where there are too few, answers
-    /// the sequence and leaves the table as it is.
+    /// Moves the fragments into the first free slots of a table. Where there are too few, gives the
+    /// sequence back and leaves the table as it is.
     pub fn into_table(self, table: &mut Table) -> Result<InTable<K>, Sequence<K>>
         ensures { MovedOrNot self table.old table.new result }
     {
@@ -191,13 +192,7 @@ impl<K: Kind> InTable<K> {
             table,
             slots: self.slots.as_slice(),
         };
-        let fragment = fragments.get(fragment.checked_sub(1)?)?;
-        Some((
-            fragment.gap_before(),
-            fragment.lead(),
-            fragment.anchor_len(),
-            fragment.shift(index),
-        ))
+        numbers(&fragments, fragment, index)
     }
 
     /// Whether the sequence hits a reading: the decision of the rule, which is true exactly when a
@@ -215,7 +210,7 @@ impl<K: Kind> InTable<K> {
         found(&self.oriented, &fragments, reading)
     }
 
-    /// Frees the slots of the sequence's fragments. No other slot changes.
+    /// Frees the slots of the sequence's fragments, whatever stands there. No other slot changes.
     pub fn clear(self, table: &mut Table)
         ensures { table.new ≡ cleared table.old self.slots }
     {

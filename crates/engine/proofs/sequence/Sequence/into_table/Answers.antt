@@ -1,9 +1,9 @@
-use Rattle.std.proofs.Common.{◌≡◌, ◌<◌, [], ◌∷◌, ◌++◌, length, set, Some, refl, sym, ap, ◌∙◌, subst, append_assoc, arith}
+use Rattle.std.proofs.Common.{[], ◌∷◌, ◌++◌, length, set, Some, refl, sym, ap, ◌∙◌, subst, append_assoc, arith}
 use Rattle.engine.specs.Said.{said}
 use Rattle.engine.specs.Sequences.{parts_said}
-use Rattle.engine.specs.Tables.{Moved}
+use Rattle.engine.specs.Tables.{Moved, Slotted}
 use Rattle.engine.proofs.Shows.{counted}
-use Rattle.engine.proofs.Tables.{Filling, filling_push, filling_all, moved}
+use Rattle.engine.proofs.Tables.{Filling, filling_push, moved}
 use Rattle.engine.proofs.sequence.Sequence.into_table.Goals as goal
 
 pub returns-then-free_count-len : goal.returns-then-free_count-len
@@ -26,17 +26,15 @@ loop-fragment-preserved g c =
 pub invariant_of-result : goal.invariant_of-result
 invariant_of-result g c =
     let s = c.self.inside in
-    let t = c.loop-fragment.table in
-    let slots = c.loop-fragment.slots.items in
     let kept = c.loop-fragment.invariant in
-    let all = filling_all c.args.table.now c.loop-fragment.yielded c.loop-fragment.fragment-iterator s.fragments.items t slots c.in-None.ensures.steps.0 (kept.0 ∙ c.into_iter-fragment-iterator.ensures.into_iter_gives.0) kept.1 in
-    (moved s.oriented s.fragments.items c.self.invariant c.args.table.now t slots all).stands.counted
+    let all = kept.0 ∙ c.into_iter-fragment-iterator.ensures.into_iter_gives.0 in
+    (moved s.oriented s.fragments.items c.self.invariant kept.1 all c.in-None.ensures.steps.0).stands.counted
 
 pub returns : goal.returns
 returns g c =
     let s = c.self.inside in
-    let t = c.loop-fragment.table in
-    let slots = c.loop-fragment.slots.items in
     let kept = c.loop-fragment.invariant in
-    let all = filling_all c.args.table.now c.loop-fragment.yielded c.loop-fragment.fragment-iterator s.fragments.items t slots c.in-None.ensures.steps.0 (kept.0 ∙ c.into_iter-fragment-iterator.ensures.into_iter_gives.0) kept.1 in
-    subst (λ v. Moved v c.args.table.now t (record { said = said s.oriented; slots = slots })) c.self.view_is (moved s.oriented s.fragments.items c.self.invariant c.args.table.now t slots all)
+    let all = kept.0 ∙ c.into_iter-fragment-iterator.ensures.into_iter_gives.0 in
+    let in_table : Slotted = record { said = said s.oriented; slots = c.loop-fragment.slots.items } in
+    subst (λ v. Moved v c.args.table.now c.loop-fragment.table in_table) c.self.view_is
+    (moved s.oriented s.fragments.items c.self.invariant kept.1 all c.in-None.ensures.steps.0)

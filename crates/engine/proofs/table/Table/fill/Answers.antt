@@ -1,4 +1,4 @@
-use Rattle.std.proofs.Common.{◌≡◌, ◌<◌, length, sym, ap, ◌∙◌, subst, arith, rules}
+use Rattle.std.proofs.Common.{◌<◌, length, sym, ◌∙◌, subst, arith, rules}
 use Rattle.kinds.proofs.Places.{nth_none}
 use Rattle.engine.specs.Tables.{free_slots}
 use Rattle.engine.proofs.Tables.{first_of}

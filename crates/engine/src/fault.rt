@@ -40,9 +40,7 @@ impl fmt::Display for Cause {
                 f,
                 "a gap, a range, the number of fragments or a fragment's span is beyond its limit"
             ),
-            Cause::NoLiteral => {
-                write!(f, "a fragment has no literal outside groups and ranges")
-            }
+            Cause::NoLiteral => { write!(f, "a fragment has no literal outside groups and ranges") }
         }
     }
 }
@@ -76,7 +74,10 @@ impl fmt::Display for Fault {
         let cause = self.cause;
         let sequence = self.sequence;
         let place = self.place;
-        write!(f, "sequence {sequence} is refused at place {place}: {cause}")
+        write!(
+            f,
+            "sequence {sequence} is refused at place {place}: {cause}"
+        )
     }
 }
 

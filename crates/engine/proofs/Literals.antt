@@ -1,5 +1,5 @@
 -- How many literals items have: each takes two characters of their text.
-use Rattle.std.proofs.Common.{◌≡◌, ℕ, ◌+◌, ◌*◌, ◌≤◌, List, [], ◌∷◌, ◌++◌, length, take, drop, ap, ◌∙◌, refl, sym, arith, length-append, take-append-drop}
+use Rattle.std.proofs.Common.{◌≡◌, ℕ, ◌+◌, ◌*◌, ◌≤◌, List, [], ◌∷◌, ◌++◌, length, take, drop, ap, ◌∙◌, refl, arith, length-append, take-append-drop}
 use Rattle.kinds.specs.Alphabet.{Alphabet}
 use Rattle.kinds.specs.Fragments.{bodies, mirrored_placed, oriented}
 use Rattle.kinds.specs.Grammar.{Placed, Says, SaysAll}

@@ -1,5 +1,3 @@
-use Rattle.std.proofs.Common.{ap, ◌∙◌}
-use Rattle.kinds.specs.Fragments.{mirrored_placed}
 use Rattle.engine.specs.Reading.{held}
 use Rattle.engine.proofs.Sounds.{compiled_sound, compiled_within, compiled_few}
 use Rattle.engine.proofs.text.compiled.Goals as goal

@@ -1,4 +1,4 @@
-use Rattle.std.proofs.Common.{get_or, Some, sym, ap, ◌∙◌}
+use Rattle.std.proofs.Common.{Some, sym, ap, ◌∙◌}
 use Rattle.std.specs.List.{slice_get}
 use Rattle.std.specs.Option.{option_map}
 use Rattle.kinds.proofs.Places.{nth_item}

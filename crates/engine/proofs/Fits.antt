@@ -1,6 +1,8 @@
 -- Where an anchor stands, and that no place is missed where the window moves on by a shift.
 use Rattle.std.proofs.Common.{◌≡◌, ℕ, Bool, option_map, MatchBool, subst, zero, suc, ◌+◌, ◌-◌, ◌%◌, ◌<◌, ◌≤◌, min, max, true, false, eqb, leb, List, [], ◌∷◌, length, get_or, drop, Some, None, ◌⊎◌, Decides, Option, sym, refl, ap, ◌∙◌, ⊎_elim, add-zero, zero-add, arith}
+use mir.Val.{bool_byte}
 use Rattle.std.specs.List.{AllWithin, HoldsAt, enumerate_from, slice_get}
+use Rattle.std.proofs.Math.Dec.{eqb-suc-zero}
 use Rattle.std.proofs.iter.runs.Lists.{slice_get_within}
 use Rattle.std.proofs.lemmas.List.{length-map, get_or-map, get_or-take, get_or-drop, ext_get_or}
 use Rattle.std.proofs.lemmas.List.FromFn.{get_or-enumerate_from, length-enumerate_from}
@@ -15,6 +17,11 @@ use Rattle.patterns.proofs.Decisions.{same_decides}
 use Rattle.kinds.proofs.Places.{nth_none}
 use Rattle.patterns.proofs.Searches.{length_stretch}
 use Rattle.engine.specs.Codes.{codes_of, not_past, ShiftsOf}
+
+-- a number, and 1 more where it is 0, is that number, and 1 at least
+pub at_least_one : (n : ℕ) → n + bool_byte (eqb n 0) ≡ max n 1
+at_least_one zero = refl
+at_least_one (suc n) = let none : bool_byte (eqb (suc n) 0) ≡ 0 = ap bool_byte (eqb-suc-zero n) in omega arith
 
 -- Codes of elements.
 

@@ -1,5 +1,5 @@
 -- How many literals items have: each takes two characters of their text.
-use Rattle.std.proofs.Common.{◌≡◌, ℕ, ◌+◌, ◌*◌, ◌≤◌, List, [], ◌∷◌, ◌++◌, length, take, drop, ap, ◌∙◌, refl, sym, arith, length-append, take-append-drop}
+use Rattle.std.proofs.Common.{◌≡◌, ℕ, ◌+◌, ◌*◌, ◌≤◌, List, [], ◌∷◌, ◌++◌, length, take, drop, ap, ◌∙◌, refl, arith, length-append, take-append-drop}
 use Rattle.kinds.specs.Alphabet.{Alphabet}
 use Rattle.patterns.specs.Fragments.{bodies, mirrored_placed, oriented}
 use Rattle.patterns.specs.Grammar.{Placed, Says, SaysAll}
@@ -14,7 +14,7 @@ use Rattle.engine.specs.declared.pattern.Run.{Run}
 use Rattle.engine.proofs.Bodies.{part_codes_are, part_items_take, part_items_drop}
 
 -- the literals of items and of those behind them
-pub literals_append : (is js : List Item) → length (literal_codes (is ++ js)) ≡ length (literal_codes is) + length (literal_codes js)
+literals_append : (is js : List Item) → length (literal_codes (is ++ js)) ≡ length (literal_codes is) + length (literal_codes js)
 literals_append [] js = omega arith
 literals_append (literal c ∷ is) js = let h = literals_append is js in omega arith
 literals_append (any ∷ is) js = literals_append is js
@@ -24,7 +24,7 @@ literals_append (other run ∷ is) js = literals_append is js
 literals_append (gap m n ∷ is) js = literals_append is js
 
 -- some of the items have no more
-pub literals_part : (is : List Item) (first n : ℕ) → length (literal_codes (take n (drop first is))) ≤ length (literal_codes is)
+literals_part : (is : List Item) (first n : ℕ) → length (literal_codes (take n (drop first is))) ≤ length (literal_codes is)
 literals_part is first n =
     let here = literals_append (take first is) (drop first is) in
     let there = literals_append (take n (drop first is)) (drop n (drop first is)) in

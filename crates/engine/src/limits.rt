@@ -1,5 +1,5 @@
 // Refuses patterns that are beyond the limits or have a fragment without a literal, and counts fragments.
-ghost use Rattle.std.specs.Prelude.{◌≡◌, ◌-◌, ◌^◌, ◌<◌, length};
+ghost use Rattle.std.specs.Prelude.{◌≡◌, ◌<◌, length};
 ghost use Rattle.engine.specs.Limits.{refusal};
 ghost use Rattle.engine.specs.Reading.{held};
 ghost use Rattle.engine.specs.Parts.{item_in, placed_in, HasPart};

@@ -46,7 +46,8 @@ pub fn next_fit_up_to<R: Reading>(
         }
         let beyond = reading.at(end as u32)?;
         let shift = shifts[usize::from(beyond.code()) % INDICES];
-        end += usize::from(shift).max(1);
+        // `max(1)` of a byte would be widened a second time.
+        end += usize::from(shift) + usize::from(shift == 0);
     }
     None
 }

@@ -1,9 +1,9 @@
-use Rattle.std.proofs.Common.{◌≡◌, ◌+◌, ◌-◌, max, length, get_or, sym, ap, refl, ◌∙◌, inl, inr, ⊎_elim, arith}
+use Rattle.std.proofs.Common.{◌≡◌, ◌+◌, ◌-◌, ◌%◌, max, length, get_or, sym, ap, refl, ◌∙◌, inl, inr, ⊎_elim, arith}
 use Rattle.std.proofs.lemmas.List.{length-map}
 use Rattle.std.proofs.lemmas.Bool.{cases_lt}
 use Rattle.patterns.specs.Search.{first_fit}
 use Rattle.engine.specs.Codes.{codes_of}
-use Rattle.engine.proofs.Fits.{code_at, code_past, found_here, found_none, found_last, found_past, moves_on}
+use Rattle.engine.proofs.Fits.{code_at, code_past, found_here, found_none, found_last, found_past, moves_on, at_least_one}
 use Rattle.engine.proofs.scan.next_fit_up_to.Goals as goal
 
 pub returns-in_err-checked_sub-clause-first : goal.returns-in_err-checked_sub-clause-first
@@ -32,10 +32,13 @@ loop-end-preserved g c =
     let place = c.loop-end.end - length anchor in
     let ends : place + length anchor ≡ c.loop-end.end = omega (arith, c.loop-end.invariant.0) in
     let beyond = ap (λ n. get_or codes n 0) ends ∙ code_at g.R.Element.Kind.alphabet xs c.loop-end.end c.in_ok-beyond.beyond (sym c.at.ensures ∙ c.in_ok-beyond.was) ∙ sym c.code.ensures ∙ sym c.from.ensures in
-    let next : c.loop-end.end + c.max.result - length anchor ≡ place + c.max.result = omega (arith, c.loop-end.invariant.0) in (
+    let shift = get_or c.args.shifts.now (c.from.result % 256) 0 in
+    let step = c.from-in-loop-end.result + c.from-in-loop-end-2.result in
+    let moved : step ≡ max shift 1 = (λ k. c.from-in-loop-end.ensures k + c.from-in-loop-end-2.ensures k) ∙ at_least_one shift in
+    let next : c.loop-end.end + step - length anchor ≡ place + step = omega (arith, c.loop-end.invariant.0) in (
       omega (arith, c.loop-end.invariant.0),
       λ table.
-          ap (first_fit anchor codes) next ∙ ap (λ d. first_fit anchor codes (place + d)) (c.max.ensures ∙ ap (λ n. max n 1) c.from-in-loop-end.ensures)
+          ap (first_fit anchor codes) next ∙ ap (λ d. first_fit anchor codes (place + d)) moved
           ∙ sym (moves_on anchor codes c.args.shifts.now place c.from.result table (sym c.if-fits.ensures) beyond)
           ∙ c.loop-end.invariant.1 table,
     )

@@ -1,4 +1,4 @@
-use Rattle.std.proofs.Common.{◌≡◌, ℕ, true, List, [], ◌∷◌, ◌++◌, sym, refl, ap, ◌∙◌, subst}
+use Rattle.std.proofs.Common.{◌≡◌, ℕ, true, List, [], ◌∷◌, sym, refl, ap, ◌∙◌, subst}
 use Rattle.engine.specs.Stored.{items, all_runs_within, all_parts_within}
 use Rattle.engine.proofs.Growth.{runs_within_more, parts_within_more_codes, items_more_codes}
 use Rattle.engine.proofs.pattern.Pattern.push_code.Goals as goal

@@ -1,4 +1,4 @@
-use Rattle.std.proofs.Common.{◌≡◌, true, List, [], ◌∷◌, ◌++◌, sym, refl, ap, ◌∙◌, subst}
+use Rattle.std.proofs.Common.{◌≡◌, true, List, [], ◌∷◌, sym, refl, ap, ◌∙◌, subst}
 use Rattle.engine.specs.Stored.{items, all_runs_within, all_parts_within}
 use Rattle.engine.specs.declared.pattern.Run.{Run}
 use Rattle.engine.proofs.Growth.{runs_within_push, parts_within_more_runs, items_more_runs}

@@ -1,4 +1,4 @@
-// Compiles a pattern: its fragments, their anchors, and the numbers of their search.
+//! Compiles a pattern: its fragments, their anchors, and the numbers of their search.
 ghost use Rattle.std.specs.Prelude.{◌≡◌, ◌+◌, ◌-◌, ◌≤◌, None, length, take, drop, if◌then◌else◌, slice_index};
 ghost use Rattle.engine.specs.Compiled.{literal_codes as literals_of, Holds, Hold};
 ghost use Rattle.engine.specs.Compiling.{part_codes, replaces, AnchorsParts, CutsParts, Shifts};

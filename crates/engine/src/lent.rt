@@ -1,4 +1,4 @@
-// Readings of a lent reading: all of it, and each side of a place in it.
+//! Readings of a lent reading: all of it, and each side of a place in it.
 ghost use Rattle.std.specs.Prelude.{reverse, take, drop};
 ghost use Rattle.engine.specs.Lent.{FitsReading-back, FitsReading-on};
 

@@ -1,4 +1,4 @@
-// Hands out the tokens of a pattern text.
+//! Hands out the tokens of a pattern text.
 ghost use Rattle.std.specs.Prelude.{◌≡◌, ◌+◌, ◌-◌, ◌≤◌, ◌++◌, ◌==◌, IsTrue, ◌↔◌, ◌⊎◌, [], true};
 ghost use Rattle.std.specs.Prelude.{length, take, drop, MatchOption, MatchResult};
 ghost use Rattle.std.specs.List.{position, prefix_len};

@@ -1,4 +1,4 @@
-// Refuses patterns that are beyond the limits or have a fragment without a literal, and counts fragments.
+//! Refuses patterns that are beyond the limits or have a fragment without a literal, and counts fragments.
 ghost use Rattle.std.specs.Prelude.{◌≡◌, ◌<◌, length};
 ghost use Rattle.engine.specs.Limits.{refusal};
 ghost use Rattle.engine.specs.Reading.{held};

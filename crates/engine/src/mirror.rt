@@ -1,4 +1,4 @@
-// Patterns in the order of a search from the back.
+//! Patterns in the order of a search from the back.
 ghost use Rattle.std.specs.Prelude.{◌≡◌, ℕ, map, reverse};
 ghost use Rattle.engine.specs.Reading.{held};
 ghost use Rattle.engine.specs.Turned.{turned_part, turned_placed, turned_run};

@@ -1,5 +1,5 @@
-// The literal that a fragment begins with: where it does not stand near enough before an anchor, no
-// placement goes through that anchor, and nothing else need be looked at there.
+//! The literal that a fragment begins with: where it does not stand near enough before an anchor, no
+//! placement goes through that anchor, and nothing else need be looked at there.
 ghost use Rattle.std.specs.Prelude.{◌≡◌, ◌≤◌, min, ◌↔◌, IsTrue, length};
 ghost use Rattle.engine.specs.Codes.{codes_of};
 ghost use Rattle.engine.specs.Finding.{part_of, Bounds};

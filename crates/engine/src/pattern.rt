@@ -1,4 +1,4 @@
-// Patterns as they were read: their items, with the codes and the runs that the items are made of.
+//! Patterns as they were read: their items, with the codes and the runs that the items are made of.
 ghost use Rattle.std.specs.Prelude.{◌≡◌, ℕ, ◌+◌, ◌<◌, ◌≤◌, true, List, [], map, length, take, drop};
 ghost use Rattle.engine.specs.Extents.{extent};
 ghost use Rattle.engine.specs.Stored.{run_codes, all_parts_within, all_runs_within};

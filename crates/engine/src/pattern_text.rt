@@ -1,4 +1,4 @@
-// The text of a pattern.
+//! The text of a pattern.
 ghost use Rattle.std.specs.Prelude.{◌≡◌, ◌<◌, ◌≤◌, length, MatchResult};
 
 use thiserror::Error;

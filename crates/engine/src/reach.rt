@@ -1,4 +1,4 @@
-// How far items reach over a reading, as rows of offsets.
+//! How far items reach over a reading, as rows of offsets.
 ghost use Rattle.std.specs.Prelude.{◌≡◌, ◌+◌, ◌≤◌, map, length};
 ghost use Rattle.std.specs.Cmp.Lexicographic.{slice_cmp};
 ghost use Rattle.std.specs.List.{slice_get};

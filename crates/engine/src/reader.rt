@@ -1,4 +1,4 @@
-// Reads a pattern text into its items.
+//! Reads a pattern text into its items.
 ghost use Rattle.std.specs.Prelude.{◌≡◌, ◌+◌, ◌*◌, ◌<◌, ◌≤◌, ◌++◌, length};
 ghost use Rattle.engine.specs.Meanings.{items_at, literals_at, runs_in, run_count};
 ghost use Rattle.engine.specs.Parts.{run_in, item_in, HasPart, HasRun, PartPushed};

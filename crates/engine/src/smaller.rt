@@ -1,4 +1,4 @@
-// The smaller of two values that may be absent.
+//! The smaller of two values that may be absent.
 ghost use Rattle.std.specs.Prelude.{◌≡◌};
 ghost use Rattle.engine.specs.Smaller.{smaller_by};
 

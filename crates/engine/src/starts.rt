@@ -1,4 +1,4 @@
-// Where a placement may start.
+//! Where a placement may start.
 ghost use Rattle.std.specs.Prelude.{◌≡◌, ◌+◌, ◌<◌, ◌↔◌, IsTrue, MatchOption, Some};
 ghost use Rattle.engine.specs.Finding.{last_place_of, Start};
 

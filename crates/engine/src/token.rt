@@ -1,4 +1,4 @@
-// The tokens of a pattern text, and the places between them.
+//! The tokens of a pattern text, and the places between them.
 ghost use Rattle.std.specs.Prelude.{◌+◌, ◌^◌, ◌<◌, ◌≤◌, length};
 
 // A lent text at a place of it, which may be its end.

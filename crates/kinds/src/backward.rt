@@ -1,4 +1,4 @@
-// Any reading from its last element to its first.
+//! Any reading from its last element to its first.
 ghost use Rattle.std.specs.Prelude.{◌≡◌, reverse};
 ghost use Rattle.kinds.specs.Readings.{FitsReading-reverse};
 

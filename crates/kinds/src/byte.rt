@@ -1,4 +1,4 @@
-// A byte as an element of a reading, and bytes as a kind.
+//! A byte as an element of a reading, and bytes as a kind.
 ghost use Rattle.std.specs.Prelude.{◌≡◌, ◌<◌};
 
 use crate::kind::Kind;

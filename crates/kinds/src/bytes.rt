@@ -1,4 +1,4 @@
-// A reading of a lent slice of bytes, as a file's bytes lie in memory.
+//! A reading of a lent slice of bytes, as a file's bytes lie in memory.
 ghost use Rattle.std.specs.Prelude.{◌≡◌, map};
 ghost use Rattle.kinds.specs.Readings.{FitsReading, shown};
 

@@ -1,4 +1,4 @@
-// A reading of a lent list of elements, of any kind.
+//! A reading of a lent list of elements, of any kind.
 ghost use Rattle.std.specs.Prelude.{◌≡◌};
 ghost use Rattle.kinds.specs.Readings.{FitsReading, shown};
 

@@ -1,4 +1,4 @@
-// The interface of an element kind.
+//! The interface of an element kind.
 ghost use Rattle.std.specs.Prelude.{◌≡◌};
 ghost use Rattle.kinds.specs.Alphabet.{Alphabet, Lawful};
 
@@ -7,7 +7,8 @@ ghost use Rattle.kinds.specs.Alphabet.{Alphabet, Lawful};
 pub trait Kind: Copy {
     ghost alphabet: { Alphabet Self };
 
-    /// The element's code, a number of 16 bits: two elements are equal exactly when their codes are.
+    /// The element's code, a number of 16 bits: two elements are equal exactly when their codes
+    /// are.
     fn code(self) -> u16
         ensures { result ≡ alphabet.code self };
 

@@ -1,4 +1,4 @@
-// Element kinds, readings, and their meaning: what the engine is generic over.
+//! Element kinds, readings, and their meaning: what the engine is generic over.
 #![tactic(auto)]
 
 mod backward;

@@ -1,4 +1,4 @@
-// Axle marks as elements of a reading, and as a kind: U0, S0 to S9, D0 to D9.
+//! Axle marks as elements of a reading, and as a kind: U0, S0 to S9, D0 to D9.
 ghost use Rattle.std.specs.Prelude.{◌≡◌, ◌<◌, Some, codes};
 ghost use Rattle.std.specs.Result.{result_ok};
 
@@ -10,8 +10,8 @@ use std::fmt;
 // How many bands there are.
 const BANDS: u8 = 10;
 
-// The bytes of a strip reading that stand for an axle on single tyres, S0 to S9, and for one on dual
-// tyres, D0 to D9.
+// The bytes of a strip reading that stand for an axle on single tyres, S0 to S9, and for one on
+// dual tyres, D0 to D9.
 const SINGLE_FIRST: u8 = 0x10;
 
 const SINGLE_LAST: u8 = 0x19;
@@ -94,8 +94,8 @@ impl From<Band> for u8 {
     }
 }
 
-/// The mark that a byte of a strip reading stands for, by its value (hexadecimal): 10 to 19 are S0 to S9,
-/// 20 to 29 are D0 to D9, and every other is U0.
+/// The mark that a byte of a strip reading stands for, by its value (hexadecimal): 10 to 19 are S0
+/// to S9, 20 to 29 are D0 to D9, and every other is U0.
 impl From<Byte> for Mark {
     ghost use Rattle.kinds.specs.AxleMarks.{mark_of};
 

@@ -1,4 +1,4 @@
-// Axle marks over any byte reading.
+//! Axle marks over any byte reading.
 ghost use Rattle.std.specs.Prelude.{◌≡◌, map};
 ghost use Rattle.kinds.specs.AxleMarks.{mark_of};
 ghost use Rattle.kinds.specs.Readings.{FitsReading-map};

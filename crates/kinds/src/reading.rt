@@ -1,4 +1,4 @@
-// The interface of a reading: its meaning is a list of elements of one kind.
+//! The interface of a reading: its meaning is a list of elements of one kind.
 ghost use Rattle.std.specs.Prelude.{◌≡◌, ◌+◌, ◌<◌, ◌++◌, List, length, OnOk, OnErr, vec_len};
 ghost use Rattle.std.specs.Vec.{vec_capacity};
 ghost use Rattle.kinds.specs.Readings.{FitsReading, shown};

@@ -1,4 +1,4 @@
-// Elements as their pairs, run together: `4142` for two bytes.
+//! Elements as their pairs, run together: `4142` for two bytes.
 ghost use Rattle.std.specs.Prelude.{◌≡◌, ◌≢◌, ◌+◌, ◌/◌, ◌<◌, ◌≤◌, Some, Ok, Err, OnOk, OnErr, IfErr, length, take, vec_len};
 ghost use Rattle.std.specs.Vec.{vec_capacity};
 ghost use Rattle.kinds.specs.Spelling.{after, fault_text, spelled};
@@ -54,7 +54,8 @@ pub fn read_elements<K: Kind>(text: &[u8], list: &mut Vec<K>) -> Result<(), Spel
         (after list.old.items (spelled K.alphabet text.now) ≡ Ok list.new.items) }
     ensures unchanged { OnErr result (list.new.items ≡ list.old.items) }
     ensures fault { IfErr result (λ e. e ≢ Memory → spelled K.alphabet text.now ≡ Err e) }
-    ensures memory { result ≡ Err Memory → vec_capacity list.old < vec_len list.old + length text.now / 2 }
+    ensures memory { result ≡ Err Memory →
+        vec_capacity list.old < vec_len list.old + length text.now / 2 }
 {
     list.try_reserve(text.len() / 2)?;
     let before = list.len();
@@ -65,7 +66,8 @@ pub fn read_elements<K: Kind>(text: &[u8], list: &mut Vec<K>) -> Result<(), Spel
     read
 }
 
-// Pushes the elements that the pairs of a text name, up to the first fault, into room that the list has.
+// Pushes the elements that the pairs of a text name, up to the first fault, into room that the list
+// has.
 fn push_elements<K: Kind>(text: &[u8], list: &mut Vec<K>) -> Result<(), SpellingFault>
     requires { vec_len list.old + length text.now / 2 ≤ vec_capacity list.old }
     ensures ok { OnOk result

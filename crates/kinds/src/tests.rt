@@ -1,4 +1,4 @@
-// What no clause says: that there is memory for elements, and what the faults of a text are called.
+//! What no clause says: that there is memory for elements, and what the faults of a text are called.
 use crate::{Byte, Bytes, Mark, Marks, Reading, SpellingFault, copy_elements, read_elements};
 
 // A file's bytes give their elements, behind those that a list holds already.

@@ -2,8 +2,9 @@
 
 /// Where a sequence is looked for: from the front of a reading, from its back, or anywhere.
 ///
-/// Front and back bound the number of elements that stand before a placement, or behind it. Where the least offset is above the
-/// greatest, nothing hits. The rule stands in docs/PATTERNS.md, "Placements".
+/// Front and back bound the number of elements that stand before a placement, or behind it. Where
+/// the least offset is above the greatest, nothing hits. The rule stands in docs/PATTERNS.md,
+/// "Placements".
 #[derive(Clone, Copy, PartialEq, Eq, Debug)]
 pub enum Reference {
     /// As many elements stand before a placement.

@@ -1,4 +1,5 @@
-//! Theorems about the definitions, each the contract of a function, so that the check asks for its proof.
+//! Theorems about the definitions, each the contract of a function, so that the check asks for its
+//! proof.
 ghost use Rattle.std.specs.Prelude.{◌≡◌, true};
 ghost use Rattle.patterns.specs.Patterns.{HitsExactly, MirroredAlike};
 ghost use Rattle.patterns.specs.Reader.{ReadsExactly, RefusesAtLongest};
@@ -46,7 +47,8 @@ pub fn found_exactly() -> bool
     true
 }
 
-/// Within the limits, searching the mirrored fragments in the reversed reading decides as the rule does from the back.
+/// Within the limits, searching the mirrored fragments in the reversed reading decides as the rule
+/// does from the back.
 pub fn found_from_back() -> bool
     ensures answer { result ≡ true }
     ensures theorem { FoundFromBack }

@@ -1,4 +1,4 @@
-// The commands, each from a line's words to its answer.
+//! The commands, each from a line's words to its answer.
 use crate::complaint::Complaint;
 use crate::elements::elements_of;
 use crate::patterns::{Words, hit, read, shown};

@@ -39,7 +39,8 @@ pub enum Complaint {
     OffsetsCrossed,
 }
 
-// By hand, since want of memory is no matter of spelling: it ends the program, and `#[from]` would print it.
+// By hand, since want of memory is no matter of spelling: it ends the program, and `#[from]` would
+// print it.
 impl From<SpellingFault> for Complaint {
     fn from(fault: SpellingFault) -> Complaint {
         match fault {

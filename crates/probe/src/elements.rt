@@ -1,4 +1,4 @@
-// Elements as a line gives them.
+//! Elements as a line gives them.
 use crate::complaint::Complaint;
 use kinds::{Kind, read_elements};
 use std::alloc::Global;

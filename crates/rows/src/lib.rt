@@ -1,4 +1,4 @@
-// Sets of offsets below 1,024, as rows of bits.
+//! Sets of offsets below 1,024, as rows of bits.
 #![tactic(auto)]
 
 ghost use Rattle.std.specs.Prelude.{◌≡◌, ℕ, ◌+◌, ◌-◌, ◌*◌, ◌<◌, ◌≤◌, Bool, true, false, not, ◌&&◌, ◌||◌, if◌then◌else◌, MatchBool, MatchOption, ◌==◌, nat_le, nat_lt, slice_index, length};
@@ -108,16 +108,16 @@ impl Row {
         }
     }
 
-    // Moves each member on by each distance from 0 to `reach`: what is moved by 0 to n, moved on by at
-    // most n + 1 more.
+    // Moves each member on by each distance from 0 to `reach`: what is moved by 0 to n, moved on by
+    // at most n + 1 more.
     fn smear(&mut self, reach: usize)
         ensures { (j : ℕ) → member self.new j
             ≡ (nat_lt j 1024 && some_distance self.old 0 reach j) }
     {
         self.used = (self.used + reach / 64 + 1).min(WORDS);
         let mut done = 0;
-        // No `for`: the step grows from turn to turn, and a counted loop would take up to 1,023 turns in
-        // place of 10.
+        // No `for`: the step grows from turn to turn, and a counted loop would take up to 1,023
+        // turns in place of 10.
         while done < reach {
             let step = (done + 1).min(reach - done);
             self.union_moved(step);
@@ -222,8 +222,8 @@ pub trait Question {
         ensures { result ≡ asked self.now offset };
 }
 
-// The bits of a word for which a question is answered yes, where bit 0 stands for the offset `base`.
-// It is asked from the highest bit that is set down to the lowest.
+// The bits of a word for which a question is answered yes, where bit 0 stands for the offset
+// `base`. It is asked from the highest bit that is set down to the lowest.
 fn answered<Q: Question>(word: u64, base: usize, question: &Q) -> u64
     requires held { 0 < word }
     requires low { base ≤ 960 }

@@ -1,15 +1,13 @@
 -- The search for fragments, one behind the other, by the numbers of the compiled ones.
-use Rattle.std.proofs.Common.{◌≡◌, ℕ, zero, suc, ◌+◌, ◌^◌, ◌<◌, ◌≤◌, List, [], ◌∷◌, ◌++◌, map, reverse, length, drop, Some, None, Option, zero-add, sym, refl, ap, ◌∙◌, subst, ⊎_elim, arith}
+use Rattle.std.proofs.Common.{◌≡◌, ℕ, suc, ◌+◌, ◌^◌, ◌<◌, ◌≤◌, List, [], ◌∷◌, ◌++◌, map, reverse, length, drop, Some, None, Option, zero-add, sym, refl, ap, ◌∙◌, ⊎_elim, arith}
 use native.Mathlib.Nat.{ℕ_set}
 use Rattle.std.proofs.Math.Bridge.{le_prop}
 use Rattle.std.proofs.Props.{props}
 use mathlib.Core.List.{map-append, reverse-cons}
 use mathlib.Core.Logic.{∥∥₁_elim}
-use Rattle.std.specs.List.{slice_get}
 use Rattle.std.proofs.lemmas.Bool.{cases_lt}
 use Rattle.patterns.specs.Fragments as spec
 use Rattle.patterns.specs.Fragments.{bodies, fragments, limit_place}
-use Rattle.patterns.specs.Grammar.{Placed}
 use Rattle.patterns.specs.Patterns.{Item}
 use Rattle.patterns.specs.Search.{least_end, search_end}
 use Rattle.patterns.proofs.Searches.{least_end_is, ends_least}

@@ -22,7 +22,7 @@ use Rattle.engine.specs.Compiled.{literal_codes}
 use Rattle.engine.specs.Limits.{refusal}
 use Rattle.engine.specs.Reading.{held}
 use Rattle.engine.specs.Said.{said, parts, HoldsAt, Searches}
-use Rattle.engine.specs.Searched.{Accepted, HoldsIf, HoldsEach}
+use Rattle.engine.specs.Searched.{Accepted, HoldsIf}
 use Rattle.engine.specs.Sequences.{outcome}
 use Rattle.engine.specs.declared.fault.Cause.{Cause}
 use Rattle.engine.specs.declared.fault.Cause.TheVariants.{Grammar, Limit, NoLiteral}

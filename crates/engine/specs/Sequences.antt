@@ -1,5 +1,5 @@
 -- What texts are refused for, and what sequences are compiled to.
-use Rattle.std.specs.Prelude.{◌≡◌, ℕ, zero, suc, List, length, Some, None, Ok, Err, Option, Result, ⊤}
+use Rattle.std.specs.Prelude.{◌≡◌, ℕ, zero, suc, List, length, Some, None, Ok, Err, Option, Result}
 use Rattle.std.specs.List.{slice_get}
 use Rattle.std.specs.Option.{option_map}
 use Rattle.kinds.specs.Alphabet.{Alphabet}

@@ -45,8 +45,8 @@ impl fmt::Display for Cause {
     }
 }
 
-/// A refusal of an input: its cause, the number of the sequence (from 1, or 0 outside one), and the place in the text, counted
-/// from 0. It goes up unchanged.
+/// A refusal of an input: its cause, the number of the sequence (from 1, or 0 outside one), and the
+/// place in the text, counted from 0. It goes up unchanged.
 #[derive(Clone, Copy, PartialEq, Eq, Debug)]
 pub struct Fault {
     /// Why the input is refused.

@@ -14,7 +14,8 @@ use patterns::Reference;
 /// How many indices an element's code can have: its code modulo 256.
 pub const INDICES: usize = 256;
 
-/// A compiled fragment: where its items stand in its pattern, its anchor, and the numbers of its search.
+/// A compiled fragment: where its items stand in its pattern, its anchor, and the numbers of its
+/// search.
 #[derive(Drop, Default)]
 pub struct Fragment {
     // The items from `first` to before `end`.
@@ -23,7 +24,8 @@ pub struct Fragment {
     // The anchor: the literals from `anchor` on, and their codes.
     pub(crate) anchor: u8,
     pub(crate) codes: ArrayVec<u16, MOST_CODES>,
-    // The least number of elements before the fragment: from the one before it on, or from where the search begins.
+    // The least number of elements before the fragment: from the one before it on, or from where
+    // the search begins.
     pub(crate) gap: u32,
     // The least number of elements from the fragment's start to its anchor's.
     pub(crate) lead: u32,
@@ -32,7 +34,8 @@ pub struct Fragment {
 }
 
 impl Fragment {
-    /// The least number of elements before the fragment: behind the fragment before it, or from where the search begins.
+    /// The least number of elements before the fragment: behind the fragment before it, or from
+    /// where the search begins.
     pub fn gap_before(&self) -> u32
         ensures { result ≡ self.now.gap }
     {
@@ -61,7 +64,8 @@ impl Fragment {
     }
 }
 
-// The shift of each index: how far from behind the codes the last of them stands that has the index.
+// The shift of each index: how far from behind the codes the last of them stands that has the
+// index.
 fn shifts(codes: &[u16]) -> [u8; INDICES]
     requires { length codes.now ≤ MOST_CODES }
     ensures { Shifts result codes.now }
@@ -81,8 +85,8 @@ struct Literals {
     len: usize,
 }
 
-// The one of two runs, of which the second stands later, that is the better anchor: the longer one. Of equals it is the
-// one that is the last in the text, which is the first of a mirrored pattern.
+// The one of two runs, of which the second stands later, that is the better anchor: the longer one.
+// Of equals it is the one that is the last in the text, which is the first of a mirrored pattern.
 fn better(reference: Reference, old: Literals, new: Literals) -> Literals
     ensures { result ≡ (if replaces reference old.len new.len then new else old) }
 {
@@ -93,7 +97,8 @@ fn better(reference: Reference, old: Literals, new: Literals) -> Literals
     if new.len > 0 && replaces { new } else { old }
 }
 
-// The anchor of a fragment's parts: its best run of literals, or an empty one behind them where there is no literal.
+// The anchor of a fragment's parts: its best run of literals, or an empty one behind them where
+// there is no literal.
 fn anchor(parts: &[PlacedPart], reference: Reference) -> Literals
     ensures inside { result.start + result.len ≤ length parts.now }
     ensures anchored { AnchorsParts reference parts.now result.start result.len }
@@ -115,16 +120,16 @@ fn anchor(parts: &[PlacedPart], reference: Reference) -> Literals
     better(reference, best, Literals { start, len })
 }
 
-// Where a fragment's body ends, and where the fragment behind it starts, if there is one, with the least number of
-// elements between them.
+// Where a fragment's body ends, and where the fragment behind it starts, if there is one, with the
+// least number of elements between them.
 #[derive(Clone, Copy)]
 struct FirstCut {
     end: usize,
     next: Option<(usize, u32)>,
 }
 
-// Cuts the first fragment off the parts that it begins: behind its body, and at the thing behind the first
-// spacing that has a gap without upper end.
+// Cuts the first fragment off the parts that it begins: behind its body, and at the thing behind
+// the first spacing that has a gap without upper end.
 fn cut_first(parts: &[PlacedPart]) -> FirstCut
     requires { length parts.now ≤ MOST_PARTS }
     ensures { CutsParts parts.now result.end result.next }
@@ -179,7 +184,8 @@ impl Pattern {
         total
     }
 
-    // The fragment whose body stands between two bounds, with the least number of elements before it.
+    // The fragment whose body stands between two bounds, with the least number of elements before
+    // it.
     fn fragment_at(&self, reference: Reference, first: usize, end: usize, gap: u32) -> Fragment
         requires ordered { first ≤ end }
         requires inside { end ≤ length self.now.parts.items }
@@ -202,7 +208,8 @@ impl Pattern {
         }
     }
 
-    /// The fragments of a pattern that stands in the order of its search (mirrored for a sequence from the back), compiled.
+    /// The fragments of a pattern that stands in the order of its search (mirrored for a sequence
+    /// from the back), compiled.
     pub(crate) fn fragments(
         &self,
         reference: Reference,

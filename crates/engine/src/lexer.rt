@@ -16,18 +16,25 @@ ghost use Rattle.patterns.specs.Reader.{least as lower, low as low_run, most as 
 
 use crate::token::{Cursor, Gap, RunText, RunsText, Token};
 use kinds::Kind;
+use thiserror::Error;
 
-/// Where a text cannot be read on.
-#[derive(Clone, Copy, PartialEq, Eq, Debug)]
+/// That a text cannot be read on.
+#[derive(Clone, Copy, PartialEq, Eq, Debug, Error)]
+#[error("the text cannot be read on at place {place}")]
 pub struct Stop {
+    /// The place of the first character that cannot stand, or the text's length where more was to
+    /// come.
     pub place: usize,
 }
 
 /// Where a text is between its items: whether a gap may stand and whether the text may end.
 #[derive(Clone, Copy, PartialEq, Eq, Debug)]
 pub enum Position {
+    /// At the start of the text.
     Start,
+    /// Behind a thing.
     AfterThing,
+    /// Behind a gap.
     AfterGap,
 }
 

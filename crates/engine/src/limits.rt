@@ -1,4 +1,5 @@
-//! Refuses patterns that are beyond the limits or have a fragment without a literal, and counts fragments.
+//! Refuses patterns that are beyond the limits or have a fragment without a literal, and counts
+//! fragments.
 ghost use Rattle.std.specs.Prelude.{◌≡◌, ◌<◌, length};
 ghost use Rattle.engine.specs.Limits.{refusal};
 ghost use Rattle.engine.specs.Reading.{held};
@@ -17,8 +18,8 @@ pub(crate) const MOST_FRAGMENTS: usize = 8;
 // A fragment spans at most this many elements.
 pub(crate) const LONGEST_SPAN: u32 = 1024;
 
-// What is kept of items that follow each other: where they begin, how many elements they span, whether a literal is among
-// them, and whether a gap without upper end is.
+// What is kept of items that follow each other: where they begin, how many elements they span,
+// whether a literal is among them, and whether a gap without upper end is.
 #[derive(Clone, Copy)]
 struct Section {
     start: Option<u8>,
@@ -27,8 +28,9 @@ struct Section {
     endless: bool,
 }
 
-// What is kept of the items up to a place: how many fragments have ended, the items of the one that has not and the spacing
-// behind them, the smallest place beyond a limit, and where the first fragment without a literal begins.
+// What is kept of the items up to a place: how many fragments have ended, the items of the one that
+// has not and the spacing behind them, the smallest place beyond a limit, and where the first
+// fragment without a literal begins.
 #[derive(Clone, Copy)]
 struct Tally {
     ended: u8,
@@ -38,7 +40,8 @@ struct Tally {
     bare: Option<u8>,
 }
 
-// Whether one run comes before another of its length, compared from the first element on or from the last.
+// Whether one run comes before another of its length, compared from the first element on or from
+// the last.
 fn comes_before(direction: Direction, low: &[u16], high: &[u16]) -> bool
     ensures { result ≡ before direction low.now high.now }
 {
@@ -117,8 +120,8 @@ impl Section {
     }
 }
 
-// Each function that may end a fragment requires room for one fragment more: the count behind it need not have it, so that is
-// no fact of the type.
+// Each function that may end a fragment requires room for one fragment more: the count behind it
+// need not have it, so that is no fact of the type.
 impl Tally {
     // Before the first item.
     const INITIAL: Tally = Tally {
@@ -196,8 +199,8 @@ impl Tally {
 }
 
 impl Pattern {
-    /// Why and where a pattern of the grammar is refused: at the smallest place beyond a limit, else at the first fragment
-    /// without a literal. None where it is not refused.
+    /// Why and where a pattern of the grammar is refused: at the smallest place beyond a limit,
+    /// else at the first fragment without a literal. None where it is not refused.
     pub(crate) fn refusal(&self) -> Option<(Cause, u8)>
         ensures { result ≡ refusal (held self.now) }
     {

@@ -98,7 +98,8 @@ fn reversed<T: Copy + Default, const N: usize>(list: &ArrayVec<T, N>) -> ArrayVe
 }
 
 impl Pattern {
-    /// The mirrored pattern: items in reverse order, the runs of each reversed and compared from the other end.
+    /// The mirrored pattern: items in reverse order, the runs of each reversed and compared from
+    /// the other end.
     pub(crate) fn mirrored(&self) -> Pattern
         ensures { held result ≡ mirrored_placed (held self.now) }
     {

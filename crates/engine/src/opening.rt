@@ -1,5 +1,5 @@
-//! The literal that a fragment begins with: where it does not stand near enough before an anchor, no
-//! placement goes through that anchor, and nothing else need be looked at there.
+//! The literal that a fragment begins with: where it does not stand near enough before an anchor,
+//! no placement goes through that anchor, and nothing else need be looked at there.
 ghost use Rattle.std.specs.Prelude.{◌≡◌, ◌≤◌, min, ◌↔◌, IsTrue, length};
 ghost use Rattle.engine.specs.Codes.{codes_of};
 ghost use Rattle.engine.specs.Finding.{part_of, Bounds};
@@ -44,7 +44,8 @@ fn first_code(parts: &[PlacedPart]) -> Option<u16>
 
 // The last place before one, and not before another, where a code stands.
 fn last_place_of<R: Reading>(code: u16, reading: &R, from: u32, to: u32) -> Option<u32>
-    ensures { LastOrNone code (codes_of R.Element.alphabet (R.elements reading.now)) from to result }
+    ensures { LastOrNone code
+        (codes_of R.Element.alphabet (R.elements reading.now)) from to result }
 {
     // No `find`: of a range from its end, what it says is said of a list turned round.
     for place in (from..to).rev() {

@@ -7,8 +7,8 @@ ghost use Rattle.patterns.specs.Patterns.{group};
 use arrayvec::ArrayVec;
 use patterns::Direction;
 
-// A pattern text has at most 200 characters. A literal takes two of them, a run three, as it has a literal and a mark beside it,
-// and each item one, but the first takes two.
+// A pattern text has at most 200 characters. A literal takes two of them, a run three, as it has a
+// literal and a mark beside it, and each item one, but the first takes two.
 pub(crate) const MOST_CODES: usize = 100;
 
 pub(crate) const MOST_RUNS: usize = 66;
@@ -22,7 +22,8 @@ pub struct Run {
     pub len: u8,
 }
 
-/// An item of a pattern. Its runs stand in the pattern's list of codes; a group has the runs from `first` on, `count` of them.
+/// An item of a pattern. Its runs stand in the pattern's list of codes; a group has the runs from
+/// `first` on, `count` of them.
 #[derive(Clone, Copy, Default)]
 pub enum Part {
     Literal(u16),
@@ -53,8 +54,8 @@ pub struct PlacedPart {
     pub part: Part,
 }
 
-/// How many elements a part takes: the least number, and the one that it spans, which is the greatest, or 0 for a gap
-/// without upper end, as the rules count a span.
+/// How many elements a part takes: the least number, and the one that it spans, which is the
+/// greatest, or 0 for a gap without upper end, as the rules count a span.
 #[derive(Clone, Copy)]
 pub(crate) struct Extent {
     pub(crate) least: u16,
@@ -74,8 +75,8 @@ fn extent_of(runs: &[Run]) -> Extent
     }
 }
 
-/// The items of a pattern text, in order. The runs of groups are parts of one list of codes, and so are those of ranges: lists in
-/// lists would each need room for the most that one can have.
+/// The items of a pattern text, in order. The runs of groups are parts of one list of codes, and so
+/// are those of ranges: lists in lists would each need room for the most that one can have.
 #[derive(Drop)]
 pub struct Pattern {
     pub(crate) codes: ArrayVec<u16, MOST_CODES>,
@@ -85,8 +86,8 @@ pub struct Pattern {
     ghost parts_within: { all_parts_within codes.items runs.items parts.items ≡ true },
 }
 
-// Runs and parts are copied out of a pattern, so that it has them is required here: a type that says so would have to lend the
-// pattern with each.
+// Runs and parts are copied out of a pattern, so that it has them is required here: a type that
+// says so would have to lend the pattern with each.
 impl Pattern {
     ghost use Rattle.engine.specs.Parts.{run_in, item_in, CodePushed, HasRun, HasRuns, HasPart, PartPushed, RunPushed};
     ghost use Rattle.engine.specs.Reading.{held};

@@ -9,6 +9,7 @@ const MOST_CHARACTERS: usize = 200;
 /// The text of a pattern: at most 200 characters.
 #[derive(Clone, Copy)]
 pub struct PatternText<'t> {
+    /// The characters, as bytes.
     pub characters: &'t [u8],
     ghost short: { length characters.now ≤ 200 },
 }

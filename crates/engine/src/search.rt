@@ -55,7 +55,8 @@ pub(crate) fn found<F: Fragments, R: Reading>(
     reading: &R,
 ) -> bool
     ensures { HoldsAt sequence.now (F.at fragments.now) →
-        result ≡ hits_in (said sequence.now) (codes_of R.Element.alphabet (R.elements reading.now)) }
+        result ≡ hits_in (said sequence.now)
+        (codes_of R.Element.alphabet (R.elements reading.now)) }
 {
     match sequence.reference {
         Reference::Front { least, most } => {
@@ -69,8 +70,8 @@ pub(crate) fn found<F: Fragments, R: Reading>(
     }
 }
 
-// The numbers of a fragment: break, lead, length of the anchor, and the shift of an index; none where there is no such fragment.
-// Fragments are numbered from 1 here.
+// The numbers of a fragment: break, lead, length of the anchor, and the shift of an index; none
+// where there is no such fragment. Fragments are numbered from 1 here.
 pub(crate) fn numbers<F: Fragments>(
     fragments: &F,
     fragment: usize,

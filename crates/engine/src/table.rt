@@ -53,7 +53,8 @@ impl Table {
         self.slots.get(slot)?.as_ref()
     }
 
-    /// Puts a fragment into a slot, in place of what stands there. A slot past the last is none, and nothing changes.
+    /// Puts a fragment into a slot, in place of what stands there. A slot past the last is none,
+    /// and nothing changes.
     pub fn set(&mut self, slot: usize, fragment: Fragment)
         ensures { self.new ≡ slice_set self.old slot (Some fragment) }
     {
@@ -99,8 +100,9 @@ impl Table {
     }
 }
 
-/// A compiled sequence over elements of a kind whose fragments stand in a table. It answers as the sequence on its own
-/// does, as long as it is given that table, and its slots there have not been set or freed since.
+/// A compiled sequence over elements of a kind whose fragments stand in a table. It answers as the
+/// sequence on its own does, as long as it is given that table, and its slots there have not been
+/// set or freed since.
 #[derive(Drop)]
 pub struct InTable<K> {
     oriented: Oriented,

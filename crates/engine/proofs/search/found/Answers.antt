@@ -1,4 +1,4 @@
-use Rattle.std.proofs.Common.{Some, is_some, map, ap, ◌∙◌}
+use Rattle.std.proofs.Common.{is_some, map, ap, ◌∙◌}
 use Rattle.patterns.specs.Fragments.{bodies}
 use Rattle.patterns.specs.Search.{least_end}
 use Rattle.engine.specs.Codes.{codes_of}

@@ -1,4 +1,4 @@
-use Rattle.std.proofs.Common.{◌≡◌, ℕ, List, Ok, Err, Result, sym, ap, ◌∙◌}
+use Rattle.std.proofs.Common.{ℕ, List, Ok, Err, Result, sym, ap, ◌∙◌}
 use Rattle.patterns.specs.Fragments.{oriented}
 use Rattle.patterns.specs.Grammar.{Placed}
 use Rattle.engine.specs.Reading.{held}

@@ -13,7 +13,7 @@ mod request;
 
 use complaint::Complaint;
 use measure::measured;
-use request::{Asked, Request, asked};
+use request::{Asked, Request};
 
 const USAGE: &str = "\
 usage: bench FILE TEXT [RUNS] [backward]
@@ -42,7 +42,7 @@ fn answer(rt: &HostRuntime, request: Request) -> Result<String, Complaint> {
 fn run(rt: &HostRuntime) -> Result<(), Complaint> {
     let args: Vec<String> = env::args(rt)?.skip(1).collect(rt.alloc())?;
     let words: Vec<&str> = args.iter().map(|word| word.as_str()).collect(rt.alloc())?;
-    match asked(words.as_slice())? {
+    match Asked::try_from(words.as_slice())? {
         Asked::Usage => rt.println(USAGE).map_err(Complaint::Output),
         Asked::Search(request) => {
             let answer = answer(rt, request)?;

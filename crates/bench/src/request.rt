@@ -24,21 +24,25 @@ pub enum Asked<'w> {
 }
 
 /// What the words behind the program's name ask for.
-pub fn asked<'w>(words: &[&'w str]) -> Result<Asked<'w>, Complaint> {
-    let (file, text, runs, order) = match words {
-        [] | ["--help"] => return Ok(Asked::Usage),
-        [file, text] => (file, text, RUNS, Order::Forward),
-        [file, text, "backward"] => (file, text, RUNS, Order::Backward),
-        [file, text, runs] => (file, text, runs_of(runs)?, Order::Forward),
-        [file, text, runs, "backward"] => (file, text, runs_of(runs)?, Order::Backward),
-        _ => return Err(Complaint::Words),
-    };
-    Ok(Asked::Search(Request {
-        file,
-        text,
-        runs,
-        order,
-    }))
+impl<'w> TryFrom<&[&'w str]> for Asked<'w> {
+    type Error = Complaint;
+
+    fn try_from(words: &[&'w str]) -> Result<Asked<'w>, Complaint> {
+        let (file, text, runs, order) = match words {
+            [] | ["--help"] => return Ok(Asked::Usage),
+            [file, text] => (file, text, RUNS, Order::Forward),
+            [file, text, "backward"] => (file, text, RUNS, Order::Backward),
+            [file, text, runs] => (file, text, runs_of(runs)?, Order::Forward),
+            [file, text, runs, "backward"] => (file, text, runs_of(runs)?, Order::Backward),
+            _ => return Err(Complaint::Words),
+        };
+        Ok(Asked::Search(Request {
+            file,
+            text,
+            runs,
+            order,
+        }))
+    }
 }
 
 // How often a search is run, as a word says it.

@@ -15,3 +15,25 @@ fn main(rt: HostRuntime) -> Result<()> {
     }
     Ok(())
 }
+
+#[cfg(test)]
+mod tests {
+    use engine::{PatternText, Reference, Sequence, Table};
+    use kinds::{Byte, Bytes};
+    use std::test::Fail;
+
+    // There is memory for a table, and a sequence in it hits what it hits on its own.
+    #[test]
+    fn searches_from_a_table(rt: HostRuntime) -> Result<(), Fail> {
+        let mut table = Table::new(rt.alloc())?;
+        let text = PatternText::try_from("25*50{1-2}46".as_bytes())?;
+        let sequence = Sequence::<Byte>::compile(1, Reference::Anywhere, text)?;
+        let placed = sequence.into_table(&mut table).ok().ok_or("no room")?;
+        assert_eq!(rt; table.free_count(), 94);
+        assert!(rt; placed.hits(&table, &Bytes::new(b"%..P.F")));
+        assert!(rt; !placed.hits(&table, &Bytes::new(b"%..P...F")));
+        placed.clear(&mut table);
+        assert_eq!(rt; table.free_count(), 96);
+        Ok(())
+    }
+}

@@ -1,16 +1,19 @@
 #!/usr/bin/env bash
-# What the borrow checker must turn down never reaches the prover, so no must-fail edit can show it.
+# What the compiler must turn down never reaches the prover, so no must-fail edit can show it.
 # This writes small programs over the library into a temporary folder and expects the errors by name:
-#   borrow-e0382  a reading is used after it was handed over
-#   borrow-e0506  bytes are written while a reading of them stands
-# The same programs without the fault must be proved.
+#   borrow-e0382                a reading is used after it was handed over
+#   borrow-e0506                bytes are written while a reading of them stands
+#   mismatched-associated-type  a sequence of marks is looked for in bytes
+# The first two without their faults, in one program, must be proved.
 set -euo pipefail
 top=$(cd "$(dirname "$0")/.." && pwd)
 work=$(mktemp -d)
 trap 'rm -rf "$work"' EXIT
 mkdir -p "$work/crates"
-cp -r "$top/crates/kinds" "$work/crates/kinds"
-rm -rf "$work/crates/kinds/must-fail" "$work/crates/kinds/out"
+for crate in kinds patterns rows engine; do
+    cp -r "$top/crates/$crate" "$work/crates/$crate"
+    rm -rf "$work/crates/$crate/must-fail" "$work/crates/$crate/out"
+done
 
 # program NAME: a program whose body of `main` comes from standard input
 program() {
@@ -49,7 +52,24 @@ let again = Held::new(&bytes);
 let _second = handed_over(again);
 bytes[0] = Byte::from(0);
 BODY
-printf '%s\n' 'kinds:' 'handed_over_twice: kinds' 'written_under_reading: kinds' 'lawful: kinds' >"$work/crates.txt"
+mkdir -p "$work/crates/marks_in_bytes/src"
+cat >"$work/crates/marks_in_bytes/src/main.rt" <<'PROGRAM'
+#![tactic(auto)]
+
+use engine::{PatternText, Reference, Sequence};
+use kinds::{Bytes, Mark};
+
+fn main() {
+    if let Ok(text) = PatternText::try_from("S1".as_bytes()) {
+        if let Ok(sequence) = Sequence::<Mark>::compile(1, Reference::Anywhere, text) {
+            let _hit = sequence.hits(&Bytes::new(b"S1"));
+        }
+    }
+}
+PROGRAM
+grep -E '^(kinds|patterns|rows|engine):' "$top/crates.txt" >"$work/crates.txt"
+printf '%s\n' 'handed_over_twice: kinds' 'written_under_reading: kinds' 'lawful: kinds' \
+    'marks_in_bytes: engine kinds' >>"$work/crates.txt"
 cd "$work"
 
 # check NAME: proves a program; what the check says stands in the log
@@ -57,10 +77,17 @@ check() {
     (cd "crates/$1" && rt check) >"$work/log" 2>&1
 }
 
+# compiled NAME: compiles and runs a program, and proves nothing
+compiled() {
+    (cd "crates/$1" && rt try) >"$work/log" 2>&1
+}
+
 passed=0
-# refused NAME ERROR: the front end turns NAME down, with ERROR
+# refused HOW NAME ERROR: the compiler turns NAME down, with ERROR
 refused() {
-    if check "$1"; then
+    local how=$1
+    shift
+    if "$how" "$1"; then
         echo "borrow_rules: $1 was accepted, and $2 was expected"
         exit 1
     fi
@@ -71,8 +98,9 @@ refused() {
     fi
     passed=$((passed + 1))
 }
-refused handed_over_twice borrow-e0382
-refused written_under_reading borrow-e0506
+refused check handed_over_twice borrow-e0382
+refused check written_under_reading borrow-e0506
+refused compiled marks_in_bytes mismatched-associated-type
 if ! check lawful; then
     echo "borrow_rules: lawful was refused:"
     cat "$work/log"

@@ -4,7 +4,11 @@ use Rattle.std.specs.List.{slice_get}
 use Rattle.patterns.specs.Fragments.{literal_code}
 use Rattle.patterns.specs.Patterns.{Item}
 use Rattle.patterns.specs.Spans.{sum_span}
+use Rattle.engine.specs.Finding.{part_of}
+use Rattle.engine.specs.Reading.{held}
+use Rattle.engine.specs.declared.fragment.Fragment.{Fragment}
 use Rattle.engine.specs.declared.opening.Opening.{Opening}
+use Rattle.engine.specs.declared.pattern.Pattern.{Pattern}
 
 -- the code of the literal that items begin with, if they do
 abbrev pub opening_code : List Item → Option ℕ
@@ -16,6 +20,10 @@ opening_code (i ∷ is) = literal_code i
 pub record OpeningOf (items : List Item) (o : Opening) : Type 0 where
   pub code : o.code ≡ opening_code items
   pub far : o.far ≡ min 1023 (sum_span items)
+
+-- an opening is that of the items of a fragment before its anchor
+abbrev pub OpeningFor : Pattern → Fragment → Opening → Type 0
+OpeningFor p f o = OpeningOf (part_of (held p) f.first f.anchor) o
 
 -- a code stands at no place from one to before another
 abbrev pub NoneOf : ℕ → List ℕ → ℕ → ℕ → Type 0

@@ -39,7 +39,8 @@ impl<'r, R: Reading> Reading for BackFrom<'r, R> {
 
     ghost elements = { λ s. reverse (take s.start (R.elements s.reading.now)) };
 
-    ghost fits = { λ s. FitsReading-back s.start (R.elements s.reading.now) (R.fits s.reading.now) };
+    ghost fits = { λ s. FitsReading-back s.start (R.elements s.reading.now)
+        (R.fits s.reading.now) };
 
     fn len(&self) -> u32 {
         self.reading.len().min(self.start)

@@ -96,7 +96,8 @@ impl<'t> Lexer<'t> {
     pub fn next<K: Kind>(&mut self) -> Result<Option<Token<'t>>, Stop>
         ensures same_text { self.new.at.text.now ≡ self.old.at.text.now }
         ensures answer { answer_in result
-            ≡ lexed K.alphabet self.old.at.text.now (position_in self.old.position) self.old.at.place }
+            ≡ lexed K.alphabet self.old.at.text.now (position_in self.old.position)
+            self.old.at.place }
         ensures moves { self.new.at.place ≡ self.old.at.place + length (passed result) }
         ensures position { position_in self.new.position
             ≡ position_behind result (position_in self.old.position) }

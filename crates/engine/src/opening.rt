@@ -2,10 +2,9 @@
 //! no placement goes through that anchor, and nothing else need be looked at there.
 ghost use Rattle.std.specs.Prelude.{◌≡◌, ◌≤◌, min, ◌↔◌, IsTrue, length};
 ghost use Rattle.engine.specs.Codes.{codes_of};
-ghost use Rattle.engine.specs.Finding.{part_of, Bounds};
-ghost use Rattle.engine.specs.Openings.{opening_code, Excluded, Known, LastOrNone, OpeningOf};
+ghost use Rattle.engine.specs.Finding.{Bounds};
+ghost use Rattle.engine.specs.Openings.{opening_code, Excluded, Known, LastOrNone, OpeningFor};
 ghost use Rattle.engine.specs.Parts.{items_in, HasParts};
-ghost use Rattle.engine.specs.Reading.{held};
 ghost use Rattle.patterns.specs.Spans.{sum_span};
 ghost use Rattle.engine.specs.declared.pattern.Pattern.{Pattern};
 
@@ -73,7 +72,7 @@ impl Opening {
     // That of a fragment, before the first look.
     pub(crate) fn of(pattern: &Pattern, fragment: &Fragment) -> Opening
         requires { Bounds (length pattern.now.parts.items) fragment.now }
-        ensures opening { OpeningOf (part_of (held pattern.now) fragment.now.first fragment.now.anchor) result }
+        ensures opening { OpeningFor pattern.now fragment.now result }
         ensures after { result.after ≡ 0 }
         ensures next { result.next ≡ 0 }
     {

@@ -123,7 +123,8 @@ impl<'c> RunRange<'c> {
     fn stands_at<R: Reading>(&self, reading: &R, at: u32) -> bool
         requires { at + length self.now.low.now ≤ length (R.elements reading.now) }
         ensures { result ≡ matches (range_item self.now) (stretch
-            (codes_of R.Element.alphabet (R.elements reading.now)) at (at + length self.now.low.now)) }
+            (codes_of R.Element.alphabet (R.elements reading.now)) at
+            (at + length self.now.low.now)) }
     {
         let len = self.low.len() as u32;
         let between = compare(self.direction, reading, at, len, self.low).is_ge()

@@ -137,7 +137,7 @@ impl Pattern {
 }
 
 // The refusal of a text where it cannot be read on.
-fn refusal(sequence: u8, stop: Stop) -> Fault
+fn stopped(sequence: u8, stop: Stop) -> Fault
     ensures { result ≡ record { cause = Cause.Grammar; sequence = sequence; place = stop.place } }
 {
     Fault {
@@ -158,7 +158,7 @@ pub(crate) fn read<K: Kind>(sequence: u8, text: PatternText) -> Result<Pattern, 
         match lexer.next::<K>() {
             Ok(Some(token)) => pattern.push_token::<K>(place, token),
             Ok(None) => return Ok(pattern),
-            Err(stop) => return Err(refusal(sequence, stop)),
+            Err(stop) => return Err(stopped(sequence, stop)),
         }
     }
 }

@@ -94,4 +94,4 @@ returns-in-Err g c =
     let p = position_in l.lexer.position in
     let answer = c.in-Err.ensures.answer in
     let stop = stop_follows a g.met.K.Kind.lawful t p at.place c.in-Err.stop.place (sym (subst (λ l. Err c.in-Err.stop.place ≡ lexed a l p at.place) l.invariant.0 answer)) in
-    subst (λ f. Read a t c.args.sequence (Err f)) (sym c.refusal.ensures) (l.invariant.1.follows ∙ ap (prepended (held l.pattern)) stop, refl, refl)
+    subst (λ f. Read a t c.args.sequence (Err f)) (sym c.stopped.ensures) (l.invariant.1.follows ∙ ap (prepended (held l.pattern)) stop, refl, refl)

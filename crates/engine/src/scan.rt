@@ -22,7 +22,7 @@ fn fits<R: Reading>(reading: &R, anchor: &[u16], place: u32) -> bool
 // The first place, from one on and not past another, where an anchor stands, or none. A window of
 // the anchor's length moves on by the shift of the element beyond it, and by 1 where the table has
 // a shift of 0, which no anchor's table has.
-pub fn next_fit_up_to<R: Reading>(
+pub(crate) fn next_fit_up_to<R: Reading>(
     reading: &R,
     anchor: &[u16],
     shifts: &[u8; INDICES],

@@ -3,7 +3,7 @@ use crate::complaint::Complaint;
 use kinds::{Kind, read_elements};
 use std::alloc::Global;
 
-// Pairs run together, `-` for none.
+/// Elements of pairs that are written together, `-` for none.
 pub fn elements_of<K: Kind>(alloc: Global, word: &str) -> Result<Vec<K>, Complaint> {
     let pairs = if word == "-" { "" } else { word };
     let mut elements = Vec::new(alloc);

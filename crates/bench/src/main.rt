@@ -57,7 +57,7 @@ fn main(rt: HostRuntime) -> ExitCode {
         // Whoever read the answer has read enough.
         Err(Complaint::Output(e)) if e.kind() == ErrorKind::BrokenPipe => ExitCode::SUCCESS,
         Err(complaint) => {
-            // Where that cannot be written either, the status tells of it.
+            // Where that cannot be written either, the exit status still says so.
             let _ = rt.eprintln(format_args!("bench: {complaint}"));
             ExitCode::FAILURE
         }

@@ -8,9 +8,13 @@ const RUNS: u32 = 5;
 /// The file's bytes are searched for the text, in an order, a number of times.
 #[derive(Clone, Copy)]
 pub struct Request<'w> {
+    /// The path of the file.
     pub file: &'w str,
+    /// The text of the pattern.
     pub text: &'w str,
+    /// How often the search is run.
     pub runs: u32,
+    /// From which end of the file it is searched.
     pub order: Order,
 }
 

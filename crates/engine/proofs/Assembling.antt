@@ -9,7 +9,8 @@ use Rattle.patterns.specs.Grammar.{Placed}
 use Rattle.patterns.specs.Patterns.{Item}
 use Rattle.patterns.specs.declared.reference.Reference.{Reference}
 use Rattle.engine.specs.Compiled.{literal_codes, anchor_at, Holds, Hold}
-use Rattle.engine.specs.Compiling.{part_codes, part_items, Anchors, Shifts, Cuts}
+use Rattle.engine.specs.Compiling.{part_codes, part_items, Anchors, Cuts}
+use Rattle.engine.specs.Codes.{ShiftsOf}
 use Rattle.engine.specs.Reading.{held}
 use Rattle.engine.specs.Stored.{items, placed_of}
 use Rattle.engine.specs.declared.fragment.FirstCut.{FirstCut}
@@ -63,8 +64,8 @@ module _ (codes : List ℕ) (runs : List Run) (ps : List PlacedPart) where
     pub assembled : (gap n : ℕ) (stored : ArrayVec ℕ) (table : List ℕ)
         → n ≡ sum_least (part_items codes runs (take start body))
         → stored.items ≡ part_codes (take (start + len - start) (drop start body))
-        → Shifts table stored.items
-        → Holds r (items codes runs ps) (record { first = first; end = end; anchor = first + start; codes = stored; gap = gap; lead = n; shifts = table }) (g gap)
+        → ShiftsOf table stored.items
+        → Holds r (items codes runs ps) (record { first = first; end = end; anchor = first + start; codes = stored; break_before = gap; lead = n; shifts = table }) (g gap)
     assembled gap n stored table n_is stored_is table_is =
         let moved : first + start - first ≡ start = omega arith in
         let at : anchor r (bodies (g gap).body) ≡ anchor_at is start len = ap (anchor r) (sym (same gap)) ∙ found.anchored in

@@ -6,7 +6,7 @@ use Rattle.patterns.specs.Patterns as item
 use Rattle.patterns.specs.declared.direction.Direction.TheVariants.{FirstOn}
 use Rattle.engine.specs.Scanning.{standing, opening, Passes, RunBehind}
 use Rattle.engine.specs.Tokens.{slice, range, other, pairs, pair_stop, lexeme_of, run_slice}
-use Rattle.engine.specs.declared.token.Cursor.{Cursor}
+use Rattle.engine.specs.declared.lexer.Cursor.{Cursor}
 use Rattle.engine.specs.declared.token.RunText.{RunText}
 use Rattle.engine.proofs.Lexing.{Ran, NoPairAt}
 

@@ -9,7 +9,7 @@ use Rattle.patterns.specs.Spans.{Anchored, NoLess}
 use Rattle.patterns.proofs.Anchors.{BestBefore, FirstFit, first_fit_exactly, anchor_splits, stands_decides, spans_at_most, best_none, best_on, best_kept, best_more, best_all, best_least}
 use Rattle.patterns.proofs.Searches.{least_end_is}
 use Rattle.engine.specs.Codes.{not_past, ShiftsOf}
-use Rattle.engine.specs.Finding.{last_place_of, last_useful_of, smaller_of, Bounds, LeastThrough, Sides, part_of}
+use Rattle.engine.specs.Finding.{last_place_of, last_useful_of, Bounds, LeastThrough, Sides, part_of}
 use Rattle.engine.specs.Openings.{Excluded, OpeningOf}
 use Rattle.engine.specs.Reading.{held}
 use Rattle.engine.specs.Said.{Searches}
@@ -17,6 +17,7 @@ use Rattle.engine.specs.declared.fragment.Fragment.{Fragment}
 use Rattle.engine.specs.declared.opening.Opening.{Opening}
 use Rattle.engine.specs.declared.oriented.Oriented.{Oriented}
 use Rattle.engine.specs.declared.starts.Starts.{Starts}
+use Rattle.engine.proofs.Smallest.{smaller_of}
 use Rattle.engine.proofs.Anchored.{codes_long, front_is, sides_of}
 use Rattle.engine.proofs.Openings.{through_excluded}
 

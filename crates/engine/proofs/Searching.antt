@@ -118,7 +118,7 @@ module _ (s : Oriented) (at : ℕ → Option Fragment) (starts : Starts) (xs : L
 
     module _ (f : Fragment) (is : at number ≡ Some f) where
       -- it ends where the fragment is not found
-      pub come_none : Least s f (end + f.gap) None xs None → None ≡ whole
+      pub come_none : Least s f (end + f.break_before) None xs None → None ≡ whole
       come_none none =
           by_within None whole (λ w.
           let (g, there, k) = part_at s at holds w number f is in
@@ -127,13 +127,13 @@ module _ (s : Oriented) (at : ℕ → Option Fragment) (starts : Starts) (xs : L
           ∙ ends_not g (drop (suc number) (parts s)) end None xs (none g k ∙ ap (λ n. least_end (bodies g.body) (end + n) None xs) k.holds.break)))
 
       -- it ends where the fragment could only start at a place that no list has
-      pub come_past : (end + f.gap < 2 ^ 64 → ⊥) → length xs < 2 ^ 64 → None ≡ whole
+      pub come_past : (end + f.break_before < 2 ^ 64 → ⊥) → length xs < 2 ^ 64 → None ≡ whole
       come_past far few =
-          let past : length xs < end + f.gap = ⊎_elim (λ l. absurd (far l)) (λ l. omega arith) (cases_lt (end + f.gap) (2 ^ 64)) in
-          come_none (λ g k. least_end_past (bodies g.body) (end + f.gap) None xs past)
+          let past : length xs < end + f.break_before = ⊎_elim (λ l. absurd (far l)) (λ l. omega arith) (cases_lt (end + f.break_before) (2 ^ 64)) in
+          come_none (λ g k. least_end_past (bodies g.body) (end + f.break_before) None xs past)
 
       -- it goes on where the fragment is found
-      pub come_next : (next : ℕ) → Least s f (end + f.gap) None xs (Some next) → ComeTo (number + 1) next
+      pub come_next : (next : ℕ) → Least s f (end + f.break_before) None xs (Some next) → ComeTo (number + 1) next
       come_next next some =
           let one : suc number ≡ number + 1 = omega arith in
           by_within whole (search_end (drop (number + 1) (parts s)) next None xs) (λ w.

@@ -2,8 +2,13 @@
 use Rattle.std.proofs.Common.{◌≡◌, ℕ, min, Some, None, Option, refl, ap, arith}
 use Rattle.std.specs.Ordering.{nat_cmp, ord_min}
 use Rattle.std.proofs.lemmas.Bool.Decides.{nat_tests}
-use Rattle.engine.specs.Finding.{smaller_of}
 use Rattle.engine.specs.Smaller.{smaller_by}
+
+-- the smaller of two ends, where there are both: contracts say it by an order, and proofs calculate with `min`
+abbrev pub smaller_of : Option ℕ → Option ℕ → Option ℕ
+smaller_of (Some a) (Some b) = Some (min a b)
+smaller_of (Some a) None = Some a
+smaller_of None b = b
 
 -- of two numbers it is their minimum
 smaller_is_min : (a b : ℕ) → ord_min nat_cmp a b ≡ min a b

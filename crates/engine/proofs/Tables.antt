@@ -12,7 +12,7 @@ use Rattle.engine.specs.Reading.{held}
 use Rattle.engine.specs.Said.{Said, said, parts, HoldsOwn, HoldsAt}
 use Rattle.engine.specs.Searched.{HoldsIf}
 use Rattle.engine.specs.Sequences.{parts_said}
-use Rattle.engine.specs.Tables.{free_from, free_slots, at_slot, at_slots, cleared, Slotted, StandsIn, Moved, Apart}
+use Rattle.engine.specs.Tables.{free_from, free_slots, at_slot, at_slots, cleared, Slotted, StandsIn, Moved, Apart, StandsOn}
 use Rattle.engine.specs.declared.fragment.Fragment.{Fragment}
 use Rattle.engine.specs.declared.oriented.Oriented.{Oriented}
 use Rattle.engine.proofs.Shows.{counted, held_each, holds_said}
@@ -197,10 +197,6 @@ module _ {X : Type 0} where
     pub freed : cleared t slots ≡ before
     pub stand : map (at_slot t) slots ≡ map Some xs
 
-  -- none yet
-  pub filling_none : (t : List (Option X)) → Filling t [] t []
-  filling_none t = record { free = refl; freed = refl; stand = refl }
-
   -- one more
   pub filling_push : (before : List (Option X)) (xs : List X) (t : List (Option X)) (slots : List ℕ) (x : X) (s : ℕ)
       → Filling before xs t slots → slice_get (free_slots t) 0 ≡ Some s → Filling before (xs ++ x ∷ []) (set t s (Some x)) (slots ++ s ∷ [])
@@ -289,25 +285,38 @@ stands_too v t u h more = record {
         ap (option_and_then (at_slot u)) e ∙ more k slot e f is ∙ sym is ∙ sym (ap (option_and_then (at_slot t)) e)
 
 -- a sequence that stands in a table stands in it still once a further one is moved in
-pub stands_moved : (s : Said) (before after : List (Option Fragment)) (v w : Slotted) → StandsIn before v → Moved s before after w → StandsIn after v
+stands_moved : (s : Said) (before after : List (Option Fragment)) (v w : Slotted) → StandsIn before v → Moved s before after w → StandsIn after v
 stands_moved s before after v w h m =
     stands_too v before after h (λ k slot e f is. stood_cleared after w.slots slot f (subst (λ t. at_slot t slot ≡ Some f) (sym m.others) is))
 
 -- the further one has other slots
-pub apart_moved : (s : Said) (before after : List (Option Fragment)) (v w : Slotted) → StandsIn before v → Moved s before after w → Apart v.slots w.slots
+apart_moved : (s : Said) (before after : List (Option Fragment)) (v w : Slotted) → StandsIn before v → Moved s before after w → Apart v.slots w.slots
 apart_moved s before after v w h m slot (k, inside, e) there =
     let at : slice_get v.slots k ≡ Some slot = slice_get-get_or v.slots k slot inside ∙ ap Some e in
     let (f, is) = stands_slot v before h k slot at in
     let free = none_at_free (length (parts_said s)) before slot (subst (λ l. Contains l slot) m.first there) in
     none-some f (sym free ∙ is)
 
--- slots that are apart are so in either order
-pub apart_sym : (some others : List ℕ) → Apart some others → Apart others some
-apart_sym some others apart slot there here = apart slot here there
-
 -- a sequence that stands in a table stands in it still once other slots are cleared
-pub stands_cleared : (t : List (Option Fragment)) (v : Slotted) (slots : List ℕ) → StandsIn t v → Apart v.slots slots → StandsIn (cleared t slots) v
+stands_cleared : (t : List (Option Fragment)) (v : Slotted) (slots : List ℕ) → StandsIn t v → Apart v.slots slots → StandsIn (cleared t slots) v
 stands_cleared t v slots h apart =
     stands_too v t (cleared t slots) h
     (λ k slot e f is.
     at_cleared t slots slot (apart slot (k, slice_get_within v.slots k slot e, get_or_from_slice_get v.slots k slot slot e)) ∙ is)
+
+-- a sequence that stands in a table stands in it still once another slot is set
+stands_set : (t : List (Option Fragment)) (v : Slotted) (slot : ℕ) (x : Option Fragment) → StandsIn t v → (Contains v.slots slot → ⊥)
+    → StandsIn (set t slot x) v
+stands_set t v slot x h apart =
+    stands_too v t (set t slot x) h
+    (λ k own e f is.
+    let there : Contains v.slots own = (k, slice_get_within v.slots k own e, get_or_from_slice_get v.slots k own own e) in
+    at_other t slot own x (λ same. apart (subst (Contains v.slots) (sym same) there)) ∙ is)
+
+-- a sequence that stands in a table goes on to stand in it as long as its slots are left alone
+pub stands_on : StandsOn
+stands_on = record {
+  moved_in = λ s before after v w h m. (stands_moved s before after v w h m, apart_moved s before after v w h m);
+  set_beside = stands_set;
+  freed_beside = stands_cleared;
+}

@@ -27,7 +27,7 @@ pub record Holds (r : Reference) (items : List Placed) (f : Fragment) (g : spec.
   pub ordered :
       (f.first ≤ f.anchor) × (f.anchor + length f.codes.items ≤ f.end) × (f.end ≤ length items)
   pub body : take (f.end - f.first) (drop f.first items) ≡ g.body
-  pub break : f.gap ≡ g.break
+  pub break : f.break_before ≡ g.break
   pub anchored :
       anchor r (bodies g.body)
       ≡ anchor_at (bodies g.body) (f.anchor - f.first) (length f.codes.items)

@@ -47,10 +47,6 @@ abbrev pub AnchorsParts : Reference → List PlacedPart → ℕ → ℕ → Type
 AnchorsParts r parts start len =
     (codes : List ℕ) (runs : List Run) → Anchors r (part_items codes runs parts) start len
 
--- a table holds the shifts of codes
-abbrev pub Shifts : List ℕ → List ℕ → Type 0
-Shifts table codes = (index : ℕ) → index < 256 → slice_index table index ≡ shift codes index
-
 -- The items from the start of a fragment on are cut behind its body, and from the next fragment's start on, if there is one.
 abbrev pub Cuts : List Placed → ℕ → Option (ℕ × ℕ) → Type 0
 Cuts qs end None =

@@ -46,7 +46,7 @@ LeastThrough a starts xs p None = (e : ℕ) → Anchored a.front a.codes a.back 
 LeastThrough a starts xs p (Some b) =
     Anchored a.front a.codes a.back starts.from starts.until xs p b × ((e : ℕ) → Spans a.back xs (p + length a.codes) e → b ≤ e)
 
--- the last place where the anchor of a placement can stand: less than 1,024 places past the last start, as far as a reading reaches
+-- no anchor of a placement stands past this place: it is 1,024 places past the last start, as far as a reading reaches
 abbrev pub last_place_of : Option ℕ → ℕ
 last_place_of None = 4294967295
 last_place_of (Some most) = min (most + 1024) 4294967295
@@ -55,9 +55,3 @@ last_place_of (Some most) = min (most + 1024) 4294967295
 abbrev pub last_useful_of : ℕ → Option ℕ → ℕ → ℕ
 last_useful_of last None len = last
 last_useful_of last (Some end) len = min last (end - len)
-
--- the smaller of two ends, where there are both, by `min`, with which proofs calculate; contracts say `smaller_by nat_cmp`
-abbrev pub smaller_of : Option ℕ → Option ℕ → Option ℕ
-smaller_of (Some a) (Some b) = Some (min a b)
-smaller_of (Some a) None = Some a
-smaller_of None b = b

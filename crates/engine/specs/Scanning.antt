@@ -7,7 +7,7 @@ use Rattle.patterns.specs.Patterns.{Item, literal, any, group, range, other, gap
 use Rattle.patterns.specs.Reader.{State, between, alternatives}
 use Rattle.engine.specs.Tokens.{pairs, pair_stop, codes_in, item_from, lexeme_of, lexeme_in, slice, runs_slice}
 use Rattle.engine.specs.declared.lexer.Stop.{Stop}
-use Rattle.engine.specs.declared.token.Cursor.{Cursor}
+use Rattle.engine.specs.declared.lexer.Cursor.{Cursor}
 use Rattle.engine.specs.declared.token.Gap.{Gap}
 use Rattle.engine.specs.declared.token.RunText.{RunText}
 use Rattle.engine.specs.declared.token.RunsText.{RunsText}

@@ -54,3 +54,16 @@ MovedOrNot s before after (Err t) = (length (free_slots before) < length (parts_
 -- no slot is in both lists
 abbrev pub Apart : List ℕ → List ℕ → Type 0
 Apart some others = (slot : ℕ) → Contains some slot → Contains others slot → ⊥
+
+-- A sequence that stands in a table goes on to stand in it as long as its slots are left alone: where a further sequence is moved in,
+-- which gets other slots, where another slot is set or freed, and where other slots are freed.
+pub record StandsOn : Type 0 where
+  pub moved_in :
+      (s : Said) (before after : List (Option Fragment)) (v w : Slotted) → StandsIn before v
+      → Moved s before after w → StandsIn after v × Apart v.slots w.slots
+  pub set_beside :
+      (t : List (Option Fragment)) (v : Slotted) (slot : ℕ) (x : Option Fragment) → StandsIn t v
+      → (Contains v.slots slot → ⊥) → StandsIn (slice_set t slot x) v
+  pub freed_beside :
+      (t : List (Option Fragment)) (v : Slotted) (slots : List ℕ) → StandsIn t v
+      → Apart v.slots slots → StandsIn (cleared t slots) v

@@ -1,7 +1,8 @@
 //! Compiles a pattern: its fragments, their anchors, and the numbers of their search.
 ghost use Rattle.std.specs.Prelude.{◌≡◌, ◌+◌, ◌-◌, ◌≤◌, None, length, take, drop, if◌then◌else◌, slice_index};
 ghost use Rattle.engine.specs.Compiled.{literal_codes as literals_of, Holds, Hold};
-ghost use Rattle.engine.specs.Compiling.{part_codes, replaces, AnchorsParts, CutsParts, Shifts};
+ghost use Rattle.engine.specs.Compiling.{part_codes, replaces, AnchorsParts, CutsParts};
+ghost use Rattle.engine.specs.Codes.{ShiftsOf};
 ghost use Rattle.engine.specs.Reading.{held};
 ghost use Rattle.engine.specs.Parts.{items_in, HasParts};
 ghost use Rattle.patterns.specs.Fragments.{bodies, limit_place, sum_least, fragments as fragments_from};
@@ -26,7 +27,7 @@ pub struct Fragment {
     pub(crate) codes: ArrayVec<u16, MOST_CODES>,
     // The least number of elements before the fragment: from the one before it on, or from where
     // the search begins.
-    pub(crate) gap: u32,
+    pub(crate) break_before: u32,
     // The least number of elements from the fragment's start to its anchor's.
     pub(crate) lead: u32,
     // The shift of each index.
@@ -36,10 +37,10 @@ pub struct Fragment {
 impl Fragment {
     /// The least number of elements before the fragment: behind the fragment before it, or from
     /// where the search begins.
-    pub fn gap_before(&self) -> u32
-        ensures { result ≡ self.now.gap }
+    pub fn break_before(&self) -> u32
+        ensures { result ≡ self.now.break_before }
     {
-        self.gap
+        self.break_before
     }
 
     /// The least number of elements from the fragment's start to its anchor's.
@@ -68,7 +69,7 @@ impl Fragment {
 // index.
 fn shifts(codes: &[u16]) -> [u8; INDICES]
     requires { length codes.now ≤ MOST_CODES }
-    ensures { Shifts result codes.now }
+    ensures { ShiftsOf result codes.now }
 {
     let longest = codes.len() as u8 + 1;
     let mut table = [longest; INDICES];
@@ -186,12 +187,19 @@ impl Pattern {
 
     // The fragment whose body stands between two bounds, with the least number of elements before
     // it.
-    fn fragment_at(&self, reference: Reference, first: usize, end: usize, gap: u32) -> Fragment
+    fn fragment_at(
+        &self,
+        reference: Reference,
+        first: usize,
+        end: usize,
+        break_before: u32,
+    ) -> Fragment
         requires ordered { first ≤ end }
         requires inside { end ≤ length self.now.parts.items }
         requires few { length (literals_of (bodies (held self.now))) ≤ MOST_CODES }
         ensures { Holds reference (held self.now) result
-            (record { break = gap; body = take (end - first) (drop first (held self.now)) }) }
+            (record { break = break_before;
+                body = take (end - first) (drop first (held self.now)) }) }
     {
         let body = &self.parts[first..end];
         let Literals { start, len } = anchor(body, reference);
@@ -202,7 +210,7 @@ impl Pattern {
             end: end as u8,
             anchor: (first + start) as u8,
             codes,
-            gap,
+            break_before,
             lead: self.least_of(&body[..start]),
             shifts,
         }
@@ -222,16 +230,16 @@ impl Pattern {
         let parts = self.parts.as_slice();
         let mut fragments = ArrayVec::new();
         let mut first = 0;
-        let mut gap = u32::from(lo);
+        let mut break_before = u32::from(lo);
         // From one cut to the next: how many parts that passes is known only when it is made.
         loop {
             let cut = cut_first(&parts[first..]);
-            fragments.push(self.fragment_at(reference, first, first + cut.end, gap));
+            fragments.push(self.fragment_at(reference, first, first + cut.end, break_before));
             let Some((start, between)) = cut.next else {
                 return fragments;
             };
             first += start;
-            gap = between;
+            break_before = between;
         }
     }
 }

@@ -1,24 +1,19 @@
 //! Hands out the tokens of a pattern text.
 ghost use Rattle.std.specs.Prelude.{◌≡◌, ◌+◌, ◌-◌, ◌≤◌, ◌++◌, ◌==◌, IsTrue, ◌↔◌, ◌⊎◌, [], true};
 ghost use Rattle.std.specs.Prelude.{length, take, drop, MatchOption, MatchResult};
-ghost use Rattle.std.specs.List.{position, prefix_len};
-ghost use Rattle.std.specs.Option.{option_map};
-ghost use Rattle.engine.specs.Scanning.{ahead, opening, standing, Behind, FirstBehind, Passes, Misses};
-ghost use Rattle.engine.specs.Scanning.{MissesAt, NoDigit, LongestNumber, PairBehind, RunBehind};
-ghost use Rattle.engine.specs.Scanning.{NoPair, NoEnd, GapBehind, GroupBehind, RangeBehind};
-ghost use Rattle.engine.specs.Scanning.{TokenBehind, Refuses};
-ghost use Rattle.engine.specs.Tokens.{first_run, run_slice, runs_slice, pairs, pair_stop, lexed};
+ghost use Rattle.std.specs.List.{prefix_len};
+ghost use Rattle.engine.specs.Tokens.{pairs, pair_stop, lexed};
 ghost use Rattle.engine.specs.Tokens.{answer_in, passed, position_in, position_behind, behind_token};
 ghost use Rattle.kinds.specs.Alphabet.{within};
 ghost use Rattle.patterns.specs.Grammar.{gap_allowed as allows_gap, may_end as may_end_at};
 ghost use Rattle.patterns.specs.Reader.{alternatives, between as between_items, bracket, digits, leads};
 ghost use Rattle.patterns.specs.Reader.{least as lower, low as low_run, most as upper};
 
-use crate::token::{Cursor, Gap, RunText, RunsText, Token};
+use crate::token::{Gap, RunText, RunsText, Token};
 use kinds::Kind;
 use thiserror::Error;
 
-/// That a text cannot be read on.
+/// The text cannot be read past a place.
 #[derive(Clone, Copy, PartialEq, Eq, Debug, Error)]
 #[error("the text cannot be read on at place {place}")]
 pub struct Stop {
@@ -72,6 +67,8 @@ pub struct Lexer<'t> {
 }
 
 impl<'t> Lexer<'t> {
+    ghost use Rattle.engine.specs.Scanning.{ahead};
+
     /// The lexer at the start of a text.
     pub fn new(text: &'t [u8]) -> Lexer<'t>
         ensures text { result.at.text.now ≡ text.now }
@@ -125,13 +122,6 @@ fn begins_pair<K: Kind>(first: u8) -> bool
     (0..=u8::MAX).any(|second| K::named(first, second).is_some())
 }
 
-// Where the first bar of a text stands, if it has one.
-fn first_bar(text: &[u8]) -> Option<usize>
-    ensures { result ≡ position (λ c. c == 124) text.now }
-{
-    text.iter().position(|c| *c == b'|')
-}
-
 // How many digits a text begins with, up to four.
 fn digit_count(text: &[u8]) -> usize
     ensures { result ≡ prefix_len (within 48 57) (take 4 text.now) }
@@ -142,31 +132,20 @@ fn digit_count(text: &[u8]) -> usize
         .count()
 }
 
-impl<'t> RunsText<'t> {
-    /// The first run, and those behind its bar, if it has one.
-    pub fn first_and_rest(self) -> (RunText<'t>, Option<RunsText<'t>>)
-        ensures { (run_slice result.0, option_map runs_slice result.1)
-            ≡ first_run (runs_slice self.entry) }
-    {
-        let RunsText { text, place } = self;
-        match first_bar(text) {
-            Some(bar) => {
-                let first = RunText {
-                    text: &text[..bar],
-                    place,
-                };
-                let rest = RunsText {
-                    text: &text[bar + 1..],
-                    place: place + bar + 1,
-                };
-                (first, Some(rest))
-            }
-            None => (RunText { text, place }, None),
-        }
-    }
+// A lent text at a place of it, which may be its end.
+#[derive(Clone, Copy)]
+pub(crate) struct Cursor<'t> {
+    pub(crate) text: &'t [u8],
+    pub(crate) place: usize,
+    ghost inside: { place ≤ length text.now },
 }
 
 impl<'t> Cursor<'t> {
+    ghost use Rattle.engine.specs.Scanning.{ahead, opening, standing, Behind, FirstBehind, Passes, Misses};
+    ghost use Rattle.engine.specs.Scanning.{MissesAt, NoDigit, LongestNumber, PairBehind, RunBehind};
+    ghost use Rattle.engine.specs.Scanning.{NoPair, NoEnd, GapBehind, GroupBehind, RangeBehind};
+    ghost use Rattle.engine.specs.Scanning.{TokenBehind, Refuses};
+
     // The cursor at the start of a text.
     pub(crate) fn new(text: &'t [u8]) -> Cursor<'t>
         ensures text { result.text.now ≡ text.now }

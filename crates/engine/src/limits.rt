@@ -1,11 +1,10 @@
-//! Refuses patterns that are beyond the limits or have a fragment without a literal, and counts
-//! fragments.
-ghost use Rattle.std.specs.Prelude.{◌≡◌, ◌<◌, length};
+//! Refuses patterns that are beyond the limits or have a fragment without a literal.
+ghost use Rattle.std.specs.Prelude.{◌≡◌, ◌<◌};
 ghost use Rattle.engine.specs.Limits.{refusal};
 ghost use Rattle.engine.specs.Reading.{held};
 ghost use Rattle.engine.specs.Parts.{item_in, placed_in, HasPart};
 ghost use Rattle.engine.specs.Tallies.{single, joined, initial, closed, with_gap, with_thing, with_item, tallied};
-ghost use Rattle.patterns.specs.Fragments.{fragments, before, wrong};
+ghost use Rattle.patterns.specs.Fragments.{before, wrong};
 
 use crate::fault::Cause;
 use crate::pattern::{Part, Pattern, PlacedPart};
@@ -207,12 +206,5 @@ impl Pattern {
         let tally = self.tally();
         let bare = tally.bare.map(|place| (Cause::NoLiteral, place));
         tally.limit.map(|place| (Cause::Limit, place)).or(bare)
-    }
-
-    /// How many fragments a pattern has.
-    pub fn fragment_count(&self) -> u8
-        ensures { result ≡ length (fragments 0 (held self.now)) }
-    {
-        self.tally().ended
     }
 }

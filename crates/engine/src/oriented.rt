@@ -57,13 +57,14 @@ impl Oriented {
 
     // A text's items in the order of their search, or the text's refusal.
     pub(crate) fn of_text<K: Kind>(
-        number: u8,
+        sequence: u8,
         reference: Reference,
         text: PatternText,
     ) -> Result<Oriented, Fault>
-        ensures { said_if result ≡ compiled K.alphabet number reference text.entry.characters.now }
+        ensures { said_if result
+            ≡ compiled K.alphabet sequence reference text.entry.characters.now }
     {
-        let pattern = Pattern::of_text::<K>(number, text)?.in_order(reference);
+        let pattern = Pattern::of_text::<K>(sequence, text)?.in_order(reference);
         let mirror = pattern.mirrored();
         Ok(Oriented {
             reference,

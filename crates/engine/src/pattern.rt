@@ -8,7 +8,7 @@ use arrayvec::ArrayVec;
 use patterns::Direction;
 
 // A pattern text has at most 200 characters. A literal takes two of them, a run three, as it has a
-// literal and a mark beside it, and each item one, but the first takes two.
+// literal and a bar, a bracket or a colon beside it, and each item one, but the first takes two.
 pub(crate) const MOST_CODES: usize = 100;
 
 pub(crate) const MOST_RUNS: usize = 66;
@@ -17,15 +17,15 @@ pub(crate) const MOST_PARTS: usize = 199;
 
 /// A run of literals, as a part of a list of codes.
 #[derive(Clone, Copy, PartialEq, Eq, Debug, Default)]
-pub struct Run {
-    pub start: u8,
-    pub len: u8,
+pub(crate) struct Run {
+    pub(crate) start: u8,
+    pub(crate) len: u8,
 }
 
 /// An item of a pattern. Its runs stand in the pattern's list of codes; a group has the runs from
 /// `first` on, `count` of them.
 #[derive(Clone, Copy, Default)]
-pub enum Part {
+pub(crate) enum Part {
     Literal(u16),
     #[default]
     Any,
@@ -49,9 +49,9 @@ pub enum Part {
 
 /// An item with the place in the text where it begins.
 #[derive(Clone, Copy, Default)]
-pub struct PlacedPart {
-    pub place: u8,
-    pub part: Part,
+pub(crate) struct PlacedPart {
+    pub(crate) place: u8,
+    pub(crate) part: Part,
 }
 
 /// How many elements a part takes: the least number, and the one that it spans, which is the
@@ -78,7 +78,7 @@ fn extent_of(runs: &[Run]) -> Extent
 /// The items of a pattern text, in order. The runs of groups are parts of one list of codes, and so
 /// are those of ranges: lists in lists would each need room for the most that one can have.
 #[derive(Drop)]
-pub struct Pattern {
+pub(crate) struct Pattern {
     pub(crate) codes: ArrayVec<u16, MOST_CODES>,
     pub(crate) runs: ArrayVec<Run, MOST_RUNS>,
     pub(crate) parts: ArrayVec<PlacedPart, MOST_PARTS>,

@@ -7,10 +7,10 @@ ghost use Rattle.engine.specs.Tokens.{between_bars, codes_in, lexeme_in, pairs, 
 ghost use Rattle.patterns.specs.Patterns as item;
 
 use crate::fault::{Cause, Fault};
-use crate::lexer::{Lexer, Stop};
+use crate::lexer::{Cursor, Lexer, Stop};
 use crate::pattern::{Part, Pattern, PlacedPart, Run};
 use crate::pattern_text::PatternText;
-use crate::token::{Cursor, Gap, RunsText, Token};
+use crate::token::{Gap, RunsText, Token};
 use kinds::Kind;
 use patterns::Direction;
 

@@ -41,7 +41,7 @@ fn last_end<F: Fragments, R: Reading>(
         let Some(fragment) = fragments.get(number) else {
             return Some(end);
         };
-        let from = end.checked_add(u64::from(fragment.gap))?;
+        let from = end.checked_add(u64::from(fragment.break_before))?;
         let starts = Starts { from, until: None };
         end = least_end(sequence, fragment, reading, starts)?;
     }
@@ -81,7 +81,7 @@ pub(crate) fn numbers<F: Fragments>(
 {
     let fragment = fragments.get(fragment.checked_sub(1)?)?;
     Some((
-        fragment.gap_before(),
+        fragment.break_before(),
         fragment.lead(),
         fragment.anchor_len(),
         fragment.shift(index),

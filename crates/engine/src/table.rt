@@ -36,8 +36,9 @@ impl Model for Table {
 }
 
 impl Table {
-    /// A table of free slots. It needs memory for all of them at once: 96 times the size of a
-    /// fragment, which is about half a kilobyte. No other call needs memory.
+    /// A table of free slots, or `AllocError` where there is no memory for it. It needs memory for
+    /// all slots at once, 96 times the size of a fragment, which is about half a kilobyte. That the
+    /// memory is found when there is some is not proved. No other call needs memory.
     pub fn new(alloc: Global) -> Result<Table, AllocError>
         ensures { IfOk result (λ t. t ≡ replicate 96 None) }
     {
@@ -125,12 +126,12 @@ impl<K> Model for InTable<K> {
 
 // The fragments of a sequence in a table.
 #[derive(Drop)]
-struct Standing<'t> {
+struct InSlots<'t> {
     table: &'t Table,
     slots: &'t [u8],
 }
 
-impl Fragments for Standing<'_> {
+impl Fragments for InSlots<'_> {
     ghost use Rattle.engine.specs.Tables.{at_slots};
 
     ghost at = { λ s k. at_slots s.table.now s.slots.now k };
@@ -190,7 +191,7 @@ impl<K: Kind> InTable<K> {
     ) -> Option<(u32, u32, usize, u8)>
         ensures { StandsIn table.now self.now → result ≡ shown self.now.said fragment index }
     {
-        let fragments = Standing {
+        let fragments = InSlots {
             table,
             slots: self.slots.as_slice(),
         };
@@ -205,7 +206,7 @@ impl<K: Kind> InTable<K> {
         ensures placement { StandsIn table.now self.now → IsTrue result ↔
             PlacementIn self.now.said (codes_of K.alphabet (R.elements reading.now)) }
     {
-        let fragments = Standing {
+        let fragments = InSlots {
             table,
             slots: self.slots.as_slice(),
         };

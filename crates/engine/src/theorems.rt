@@ -2,6 +2,7 @@
 //! proof.
 ghost use Rattle.std.specs.Prelude.{◌≡◌, true};
 ghost use Rattle.engine.specs.Examples.{Examples};
+ghost use Rattle.engine.specs.Tables.{StandsOn};
 ghost use Rattle.engine.specs.Tokens.{TokensAreTheText};
 
 use kinds::Kind;
@@ -17,6 +18,14 @@ pub fn examples() -> bool
 /// A text that is read has tokens, and as they are written they are the text.
 pub fn tokens_are_the_text<K: Kind>() -> bool
     ensures theorem { TokensAreTheText K.alphabet }
+    ensures answer { result ≡ true }
+{
+    true
+}
+
+/// A sequence that stands in a table goes on to stand in it as long as its slots are left alone.
+pub fn stands_on() -> bool
+    ensures theorem { StandsOn }
     ensures answer { result ≡ true }
 {
     true

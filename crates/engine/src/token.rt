@@ -1,13 +1,6 @@
-//! The tokens of a pattern text, and the places between them.
-ghost use Rattle.std.specs.Prelude.{◌+◌, ◌^◌, ◌<◌, ◌≤◌, length};
-
-// A lent text at a place of it, which may be its end.
-#[derive(Clone, Copy)]
-pub(crate) struct Cursor<'t> {
-    pub(crate) text: &'t [u8],
-    pub(crate) place: usize,
-    ghost inside: { place ≤ length text.now },
-}
+//! The tokens of a pattern text.
+ghost use Rattle.std.specs.Prelude.{◌≡◌, ◌+◌, ◌^◌, ◌==◌, ◌<◌, length};
+ghost use Rattle.std.specs.List.{position};
 
 /// A gap between two things.
 #[derive(Clone, Copy, PartialEq, Eq, Debug)]
@@ -35,6 +28,40 @@ pub struct RunsText<'t> {
     /// The place in the text where they begin.
     pub place: usize,
     ghost fits: { place + length text.now < 2 ^ 64 },
+}
+
+// Where the first bar of a text stands, if it has one.
+fn first_bar(text: &[u8]) -> Option<usize>
+    ensures { result ≡ position (λ c. c == 124) text.now }
+{
+    text.iter().position(|c| *c == b'|')
+}
+
+impl<'t> RunsText<'t> {
+    ghost use Rattle.std.specs.Option.{option_map};
+    ghost use Rattle.engine.specs.Tokens.{first_run, run_slice, runs_slice};
+
+    /// The first run, and those behind its bar, if it has one.
+    pub fn first_and_rest(self) -> (RunText<'t>, Option<RunsText<'t>>)
+        ensures { (run_slice result.0, option_map runs_slice result.1)
+            ≡ first_run (runs_slice self.entry) }
+    {
+        let RunsText { text, place } = self;
+        match first_bar(text) {
+            Some(bar) => {
+                let first = RunText {
+                    text: &text[..bar],
+                    place,
+                };
+                let rest = RunsText {
+                    text: &text[bar + 1..],
+                    place: place + bar + 1,
+                };
+                (first, Some(rest))
+            }
+            None => (RunText { text, place }, None),
+        }
+    }
 }
 
 /// A token: neighbouring literals, or one other thing or gap, with its parts of the text

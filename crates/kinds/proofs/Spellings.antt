@@ -23,13 +23,13 @@ spelled_more a xs place rest (first ∷ second ∷ third ∷ more) x two e = abs
 pub kept_more : {X : Type 0} (n : ℕ) (old ys zs : List X) (x : X) → zs ≡ ys ++ x ∷ [] → n ≤ length ys → take n ys ≡ old → take n zs ≡ old
 kept_more n old ys zs x e h kept = ap (take n) e ∙ take-append-le n ys (x ∷ []) h ∙ kept
 
--- a pair in front of a rest that is not at fault for want of memory is not so either
+-- a pair in front of a rest whose fault is not `Memory` gives no such fault either
 in_front_memory : {E : Type 0} (place : ℕ) (o : Option E) (r : Result (List E) SpellingFault) → ¬ (r ≡ Err Memory) → ¬ (in_front place o r ≡ Err Memory)
 in_front_memory place None r h e = grind arith
 in_front_memory place (Some x) (Ok xs) h e = grind arith
 in_front_memory place (Some x) (Err fault) h e = h e
 
--- want of memory is no fault of a text
+-- `Memory` is no fault of a text
 pub never_memory : {E : Type 0} (a : Alphabet E) (place : ℕ) (text : List ℕ) → ¬ (spelled_from a place text ≡ Err Memory)
 never_memory a place [] e = grind arith
 never_memory a place (first ∷ []) e = grind arith

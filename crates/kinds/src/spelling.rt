@@ -35,7 +35,7 @@ impl fmt::Display for SpellingFault {
 
 impl Error for SpellingFault {}
 
-/// Want of memory is a reason to read no elements.
+/// Running out of memory is a reason to read no elements.
 impl From<AllocError> for SpellingFault {
     ghost from_gives = { λ _ r. r ≡ Memory };
 
@@ -47,8 +47,8 @@ impl From<AllocError> for SpellingFault {
 /// Reads a text of pairs run together, as `4142` or `S1D4`, and puts the elements that they name at
 /// the end of a list, in order (docs/KINDS_AND_READINGS.md).
 ///
-/// A text is refused at its first fault. Want of memory is the reason only where the list has too
-/// little room for as many elements as the text has pairs. Each refusal leaves the list as it was.
+/// A text is refused at its first fault. `Memory` is the reason only where the list has too little
+/// room for as many elements as the text has pairs. Each refusal leaves the list as it was.
 pub fn read_elements<K: Kind>(text: &[u8], list: &mut Vec<K>) -> Result<(), SpellingFault>
     ensures ok { OnOk result
         (after list.old.items (spelled K.alphabet text.now) ≡ Ok list.new.items) }

@@ -74,7 +74,7 @@ pub record Fragment : Type 0 where
   pub break : ℕ
   pub body : List Placed
 
--- A spacing is a row of gaps with nothing else between them. The items are cut at every spacing that has a gap without
+-- A spacing is neighbouring gaps with nothing else between them. The items are cut at every spacing that has a gap without
 -- upper end. What was read: the break and the body of the fragment so far, and the spacing behind it.
 abbrev pub cut_from : ℕ → List Placed → List Placed → List Placed → List Fragment
 cut_from break body spacing [] = record { break = break; body = body } ∷ []
@@ -194,7 +194,7 @@ literal_runs front run (i ∷ is) =
       | None ↦ ended front run (i ∷ is) ++ literal_runs (front ++ (map literal run ++ i ∷ [])) [] is
     ]
 
--- one of two runs: the longer, of equals the one that is the last in the text, which is the first of a mirrored one
+-- whether the second of two runs is the better anchor: it is longer, or as long and later in the text, which is sooner in a mirrored one
 abbrev pub better : Reference → Anchor → Anchor → Bool
 better (Front least most) old new = nat_le (length old.codes) (length new.codes)
 better (Back least most) old new = nat_lt (length old.codes) (length new.codes)

@@ -91,7 +91,7 @@ fn main(rt: HostRuntime) -> ExitCode {
         // Whoever read the answers has read enough.
         Err(Failure::Output(e)) if e.kind() == ErrorKind::BrokenPipe => ExitCode::SUCCESS,
         Err(failure) => {
-            // Where that cannot be written either, the status tells of it.
+            // Where that cannot be written either, the exit status still says so.
             let _ = rt.eprintln(format_args!("probe: {failure}"));
             ExitCode::FAILURE
         }

@@ -1,4 +1,4 @@
--- A text is at fault for its pairs alone, so want of memory comes from the reservation.
+-- A text is at fault for its pairs alone, so running out of memory comes from the reservation.
 use Rattle.kinds.proofs.Spellings.{never_memory}
 use Rattle.kinds.proofs.spelling.read_elements.Goals as goal
 

@@ -19,5 +19,5 @@ returns g c =
     let r = c.args.reference in
     let same = ap (oriented r) c.in_order-pattern.ensures ∙ oriented_twice r (held c.in_ok-of_text.field-0) in
     let said : List Placed → Result Said Fault = λ qs. Ok (record { reference = r; items = qs }) in
-    let answer : Result (List Placed) (Cause × ℕ) → Result Said Fault = λ o. elim o [ Ok qs ↦ said qs | Err c' ↦ Err (record { cause = c'.0; sequence = c.args.number; place = c'.1 }) ] in
+    let answer : Result (List Placed) (Cause × ℕ) → Result Said Fault = λ o. elim o [ Ok qs ↦ said qs | Err c' ↦ Err (record { cause = c'.0; sequence = c.args.sequence; place = c'.1 }) ] in
     ap said same ∙ ap answer (sym c.in_ok-of_text.ensures)

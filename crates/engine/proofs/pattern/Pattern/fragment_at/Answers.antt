@@ -1,6 +1,7 @@
 use Rattle.std.proofs.Common.{◌+◌, ◌-◌, length, take, drop, sym, ap, subst, arith}
 use Rattle.engine.specs.Compiled.{literal_codes}
-use Rattle.engine.specs.Compiling.{part_items, Shifts}
+use Rattle.engine.specs.Compiling.{part_items}
+use Rattle.engine.specs.Codes.{ShiftsOf}
 use Rattle.engine.specs.Parts.{HasParts}
 use Rattle.engine.proofs.Assembling.{assembled}
 use Rattle.engine.proofs.Bodies.{part_codes_are}
@@ -43,5 +44,5 @@ returns c =
     assembled codes runs c.args.self.now.parts.items c.args.reference first end c.requires.ordered c.requires.inside
     (take (end - first) (drop first slice)) (ap (λ ps. take (end - first) (drop first ps)) c.deref.ensures.0)
     c.anchor-start.result.start c.anchor-start.result.len (c.anchor-start.ensures.anchored codes runs)
-    c.args.gap c.least_of.result c.literal_codes-codes.result c.shifts-shifts.result c.least_of.ensures c.literal_codes-codes.ensures
-    (subst (Shifts c.shifts-shifts.result) c.as_slice.ensures.value c.shifts-shifts.ensures)
+    c.args.break_before c.least_of.result c.literal_codes-codes.result c.shifts-shifts.result c.least_of.ensures c.literal_codes-codes.ensures
+    (subst (ShiftsOf c.shifts-shifts.result) c.as_slice.ensures.value c.shifts-shifts.ensures)

@@ -21,7 +21,7 @@ pub loop-start-init : goal.loop-start-init
 loop-start-init c =
     let few = few_fragments c.args.lo (held c.args.self.now) c.requires.within in
     let items = held c.args.self.now in
-    let gap : cut_from c.from-gap.result [] [] items ≡ fragments c.args.lo items = ap (λ n. cut_from n [] [] items) c.from-gap.ensures in
+    let gap : cut_from c.from-break_before.result [] [] items ≡ fragments c.args.lo items = ap (λ n. cut_from n [] [] items) c.from-break_before.ensures in
     let none = c.new-fragments.ensures in (
       omega arith,
       λ fs rest. rw none (subst (Hold c.args.reference items fs) gap rest),
@@ -38,12 +38,12 @@ fragment_at-requires-clause-inside c =
     omega arith
 
 pub push-requires : goal.push-requires
-push-requires c = let some = some_fragment c.loop-start.gap (drop c.loop-start.first (held c.args.self.now)) in (omega arith, omega (arith, c.loop-start.invariant.2))
+push-requires c = let some = some_fragment c.loop-start.break_before (drop c.loop-start.first (held c.args.self.now)) in (omega arith, omega (arith, c.loop-start.invariant.2))
 
 pub returns-in_default : goal.returns-in_default
 returns-in_default c =
     pushed_last c.args.self.now c.as_slice-parts.result.now c.as_slice-parts.ensures.value c.loop-start.first c.loop-start.invariant.0 c.cut_first-cut.result c.cut_first-cut.ensures
-    c.in_default.is c.args.reference c.loop-start.gap c.fragment_at.result c.fragment_at.ensures
+    c.in_default.is c.args.reference c.loop-start.break_before c.fragment_at.result c.fragment_at.ensures
     c.loop-start.fragments.items c.push.new.self.items _ c.loop-start.invariant.1 c.push.ensures.items
 
 pub overflow_add-first-in-loop-start : goal.overflow_add-first-in-loop-start
@@ -57,8 +57,8 @@ loop-start-preserved c =
     let h = starts (goal.at.loop-start-preserved c).In-Some in (
       omega arith,
       pushed_more c.args.self.now c.as_slice-parts.result.now c.as_slice-parts.ensures.value c.loop-start.first c.loop-start.invariant.0 c.cut_first-cut.result c.cut_first-cut.ensures
-          c.in-Some.start c.in-Some.between c.in-Some.is c.args.reference c.loop-start.gap c.fragment_at.result c.fragment_at.ensures
+          c.in-Some.start c.in-Some.between c.in-Some.is c.args.reference c.loop-start.break_before c.fragment_at.result c.fragment_at.ensures
           c.loop-start.fragments.items c.push.new.self.items _ c.loop-start.invariant.1 c.push.ensures.items,
       counted_more c.args.self.now c.as_slice-parts.result.now c.as_slice-parts.ensures.value c.loop-start.first c.loop-start.invariant.0 c.cut_first-cut.result c.cut_first-cut.ensures
-          c.in-Some.start c.in-Some.between c.in-Some.is c.loop-start.gap c.fragment_at.result c.loop-start.fragments.items c.push.new.self.items c.loop-start.invariant.2 c.push.ensures.items,
+          c.in-Some.start c.in-Some.between c.in-Some.is c.loop-start.break_before c.fragment_at.result c.loop-start.fragments.items c.push.new.self.items c.loop-start.invariant.2 c.push.ensures.items,
     )

@@ -1,6 +1,6 @@
 use Rattle.std.proofs.Common.{◌≡◌, ◌+◌, ◌-◌, ◌*◌, ◌≤◌, length, drop}
 use Rattle.engine.specs.Tokens.{pairs}
-use Rattle.engine.proofs.token.Cursor.run.Given as goal
+use Rattle.engine.proofs.lexer.Cursor.run.Given as goal
 
 -- the pairs that were passed and those that are ahead are those of the text
 abbrev pub invariant-loop-later : goal.invariant-loop-later

@@ -2,7 +2,7 @@ use Rattle.std.proofs.Common.{rules, refl, arith}
 use Rattle.std.proofs.lemmas.List.{take_all}
 use borrow.Author.Tests.{tests}
 use Rattle.engine.proofs.Scans.{standing_are_digits, standing_few, number_stands, value_more}
-use Rattle.engine.proofs.token.Cursor.number.Goals as goal
+use Rattle.engine.proofs.lexer.Cursor.number.Goals as goal
 
 pub loop-digit-init : goal.loop-digit-init
 loop-digit-init c = record {

@@ -1,7 +1,7 @@
 use Rattle.std.proofs.Common.{◌∙◌}
 use Rattle.std.proofs.lemmas.Result.{MatchResult-weaker}
 use Rattle.engine.proofs.Lexing.{bracket_inside}
-use Rattle.engine.proofs.token.Cursor.range.Goals as goal
+use Rattle.engine.proofs.lexer.Cursor.range.Goals as goal
 
 pub returns-in-None : goal.returns-in-None
 returns-in-None g c =

@@ -1,6 +1,6 @@
 use Rattle.std.proofs.Common.{◌≡◌, ◌^◌, ◌<◌, ◌≤◌, length, take}
 use Rattle.patterns.specs.Grammar.{Digits, followed_by}
-use Rattle.engine.proofs.token.Cursor.number.Given as goal
+use Rattle.engine.proofs.lexer.Cursor.number.Given as goal
 
 -- the digits, and the value of those that were read
 abbrev pub invariant-loop-digit : goal.invariant-loop-digit

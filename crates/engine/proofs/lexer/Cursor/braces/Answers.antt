@@ -6,7 +6,7 @@ use Rattle.patterns.specs.Reader.{digits}
 use Rattle.patterns.specs.Reader.{least as lower, most as upper}
 use Rattle.engine.specs.Scanning.{Stops}
 use Rattle.engine.proofs.Gaps.{CompletesAt, least_stops, one_number, dash_completes, dash_stops}
-use Rattle.engine.proofs.token.Cursor.braces.Goals as goal
+use Rattle.engine.proofs.lexer.Cursor.braces.Goals as goal
 
 pub returns-in-Some : goal.returns-in-Some
 returns-in-Some g c =

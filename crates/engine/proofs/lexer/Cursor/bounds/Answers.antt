@@ -8,8 +8,8 @@ use Rattle.engine.specs.Tokens.{range, other, lexeme_of, run_slice}
 use Rattle.engine.proofs.Cursors.{passed_at, none_at, run_at, no_pair_at, no_end_at, range_token, other_token}
 use Rattle.engine.proofs.Gaps.{stands_true}
 use Rattle.engine.proofs.Lexing.{codes_length, codes_at, low_none, low_stops, other_done, high_none, range_done, high_stops}
-use Rattle.engine.proofs.token.Cursor.bounds.Goals as goal
-use Rattle.engine.proofs.token.Cursor.bounds.Goals.{then-not-inside+in_default, else-not-inside}
+use Rattle.engine.proofs.lexer.Cursor.bounds.Goals as goal
+use Rattle.engine.proofs.lexer.Cursor.bounds.Goals.{then-not-inside+in_default, else-not-inside}
 
 pub returns-in_err-low : goal.returns-in_err-low
 returns-in_err-low g c =

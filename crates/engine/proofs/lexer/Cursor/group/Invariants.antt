@@ -1,6 +1,6 @@
 use Rattle.std.proofs.Common.{◌≡◌, ◌-◌, ◌<◌, length}
 use Rattle.engine.proofs.Lexing.{Alternating}
-use Rattle.engine.proofs.token.Cursor.group.Given as goal
+use Rattle.engine.proofs.lexer.Cursor.group.Given as goal
 
 -- the runs that were read, with bars behind them
 abbrev pub invariant-loop-end : goal.invariant-loop-end

@@ -8,7 +8,7 @@ use Rattle.engine.specs.Tokens.{literals, group, slice, position_in}
 use Rattle.engine.proofs.Cursors.{run_at}
 use Rattle.engine.proofs.Gaps.{stands}
 use Rattle.engine.proofs.Lexing.{group_opens, range_opens, literal_done}
-use Rattle.engine.proofs.token.Cursor.token.Goals as goal
+use Rattle.engine.proofs.lexer.Cursor.token.Goals as goal
 
 pub returns-in_ok-runs-in-40 : goal.returns-in_ok-runs-in-40
 returns-in_ok-runs-in-40 g c =

@@ -4,11 +4,11 @@ use Rattle.patterns.specs.Patterns.{gap}
 use Rattle.patterns.specs.Reader.{digits}
 use Rattle.patterns.specs.Reader.{most as upper}
 use Rattle.engine.specs.Scanning.{Stops}
-use Rattle.engine.specs.declared.token.Cursor.{Cursor}
+use Rattle.engine.specs.declared.lexer.Cursor.{Cursor}
 use Rattle.engine.proofs.Gaps.{CompletesAt, UpperEnd, star_end, number_end}
-use Rattle.engine.proofs.token.Cursor.upper_end.Given as given
-use Rattle.engine.proofs.token.Cursor.upper_end.Goals as goal
-use Rattle.engine.proofs.token.Cursor.upper_end.Goals.{Joined-past, in-Some, in_default+in_ok-most}
+use Rattle.engine.proofs.lexer.Cursor.upper_end.Given as given
+use Rattle.engine.proofs.lexer.Cursor.upper_end.Goals as goal
+use Rattle.engine.proofs.lexer.Cursor.upper_end.Goals.{Joined-past, in-Some, in_default+in_ok-most}
 
 -- the upper end, a star or a number, whichever stood there, with the cursor behind it
 found : (g : given.Over) (c : Joined-past g) → (c.match-past.most.1.text.now ≡ c.args.self.text.now) × UpperEnd g.K.Kind.alphabet c.args.self.text.now c.args.least c.args.self.place (c.match-past.most.0, c.match-past.most.1.place)

@@ -7,7 +7,7 @@ use Rattle.engine.specs.Tokens.{slice}
 use Rattle.engine.proofs.Cursors.{passed_at, none_at, run_at, no_pair_at, no_end_at}
 use Rattle.engine.proofs.Gaps.{stands_true}
 use Rattle.engine.proofs.Lexing.{group_begun, group_alone, group_more, group_done, group_stops, group_none, group_empty}
-use Rattle.engine.proofs.token.Cursor.group.Goals as goal
+use Rattle.engine.proofs.lexer.Cursor.group.Goals as goal
 
 pub returns-in_err-first_end : goal.returns-in_err-first_end
 returns-in_err-first_end g c =

@@ -6,12 +6,12 @@ use Rattle.patterns.specs.Reader.{between, digits}
 use Rattle.patterns.specs.Reader.{least as lower}
 use Rattle.engine.specs.Scanning.{Completes, CompletesGap}
 use Rattle.engine.specs.Tokens.{gap, position_in}
-use Rattle.engine.specs.declared.token.Cursor.{Cursor}
+use Rattle.engine.specs.declared.lexer.Cursor.{Cursor}
 use Rattle.engine.specs.declared.token.Gap.{Gap}
 use Rattle.engine.proofs.Cursors.{At, passed_at}
 use Rattle.engine.proofs.Lexing.{star_done, gap_opens}
-use Rattle.engine.proofs.token.Cursor.gap.Goals as goal
-use Rattle.engine.proofs.token.Cursor.gap.Goals.{in-Some, in_default+in_ok-require+in_ok-found}
+use Rattle.engine.proofs.lexer.Cursor.gap.Goals as goal
+use Rattle.engine.proofs.lexer.Cursor.gap.Goals.{in-Some, in_default+in_ok-require+in_ok-found}
 
 pub returns : goal.returns
 returns g c =

@@ -1,6 +1,0 @@
-use Rattle.engine.specs.Reading.{held}
-use Rattle.engine.proofs.Tallies.{tally_counts}
-use Rattle.engine.proofs.pattern.Pattern.fragment_count.Goals as goal
-
-pub returns : goal.returns
-returns c = tally_counts c.tally.result (held c.args.self.now) c.tally.ensures

@@ -1,7 +1,7 @@
 -- What the parts of the compiler answer.
-use Rattle.std.specs.Prelude.{◌≡◌, ℕ, ◌+◌, ◌<◌, ◌≤◌, Bool, ◌&&◌, List, [], ◌∷◌, length, take, drop, Some, None, Option, nat_le, nat_lt, slice_index}
+use Rattle.std.specs.Prelude.{◌≡◌, ℕ, ◌+◌, ◌<◌, ◌≤◌, Bool, ◌&&◌, List, [], ◌∷◌, length, take, drop, Some, None, Option, nat_le, nat_lt}
 use Rattle.std.specs.List.{filter_map}
-use Rattle.patterns.specs.Fragments.{anchor, bodies, cut_from, shift}
+use Rattle.patterns.specs.Fragments.{anchor, bodies, cut_from}
 use Rattle.patterns.specs.Grammar.{Placed}
 use Rattle.patterns.specs.Patterns.{Item}
 use Rattle.patterns.specs.declared.reference.Reference.{Reference}

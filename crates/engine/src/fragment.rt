@@ -198,8 +198,10 @@ impl Pattern {
         requires inside { end ≤ length self.now.parts.items }
         requires few { length (literals_of (bodies (held self.now))) ≤ MOST_CODES }
         ensures { Holds reference (held self.now) result
-            (record { break = break_before;
-                body = take (end - first) (drop first (held self.now)) }) }
+            (record {
+              break = break_before;
+              body = take (end - first) (drop first (held self.now));
+            }) }
     {
         let body = &self.parts[first..end];
         let Literals { start, len } = anchor(body, reference);

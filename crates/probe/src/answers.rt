@@ -1,7 +1,7 @@
 //! The commands, each from a line's words to its answer.
 use crate::complaint::Complaint;
 use crate::elements::elements_of;
-use crate::patterns::{Words, hit, read, shown};
+use crate::pattern::{Words, hit, read, shown};
 use kinds::{Backward, Byte, Held, Kind, Mark, Marks, Order, Reading, copy_elements};
 use std::alloc::{AllocError, Global};
 

@@ -10,7 +10,7 @@ mod answers;
 mod complaint;
 mod elements;
 mod failure;
-mod patterns;
+mod pattern;
 
 use answers::answer;
 use complaint::Complaint;

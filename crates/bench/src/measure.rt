@@ -13,7 +13,7 @@ pub struct Measure {
 }
 
 /// Runs a search a number of times, and times each.
-pub fn measured<K: Kind, R: Reading<Element = K>>(
+pub(crate) fn measured<K: Kind, R: Reading<Element = K>>(
     clock: &impl Clock,
     sequence: &Sequence<K>,
     reading: &R,

@@ -29,7 +29,7 @@ impl Command<'_> {
 }
 
 /// The answer to a line.
-pub fn answer(alloc: Global, line: &str) -> Result<String, Complaint> {
+pub(crate) fn answer(alloc: Global, line: &str) -> Result<String, Complaint> {
     if line.is_empty() {
         return Err(Complaint::EmptyLine);
     }

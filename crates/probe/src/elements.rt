@@ -4,7 +4,7 @@ use kinds::{Kind, read_elements};
 use std::alloc::Global;
 
 /// Elements of pairs that are written together, `-` for none.
-pub fn elements_of<K: Kind>(alloc: Global, word: &str) -> Result<Vec<K>, Complaint> {
+pub(crate) fn elements_of<K: Kind>(alloc: Global, word: &str) -> Result<Vec<K>, Complaint> {
     let pairs = if word == "-" { "" } else { word };
     let mut elements = Vec::new(alloc);
     read_elements(pairs.as_bytes(), &mut elements)?;

@@ -75,13 +75,13 @@ fn compiled<K: Kind>(reference: Reference, text: &str) -> Result<Sequence<K>, Co
 }
 
 /// The number of a text's fragments.
-pub fn read<K: Kind>(alloc: Global, text: &str) -> Result<String, Complaint> {
+pub(crate) fn read<K: Kind>(alloc: Global, text: &str) -> Result<String, Complaint> {
     let count = compiled::<K>(Reference::Anywhere, text)?.fragment_count();
     Ok(format!(in alloc; "ok {count}")?)
 }
 
 /// The numbers of a text's fragment.
-pub fn shown<K: Kind>(
+pub(crate) fn shown<K: Kind>(
     alloc: Global,
     words: Words,
     fragment: &str,
@@ -98,7 +98,11 @@ pub fn shown<K: Kind>(
 }
 
 /// Whether a sequence hits the reading of the elements.
-pub fn hit<K: Kind>(alloc: Global, words: Words, elements: &str) -> Result<String, Complaint> {
+pub(crate) fn hit<K: Kind>(
+    alloc: Global,
+    words: Words,
+    elements: &str,
+) -> Result<String, Complaint> {
     let reference = words.reference()?;
     let elements: Vec<K> = elements_of(alloc, elements)?;
     let sequence = compiled::<K>(reference, words.text)?;

@@ -16,7 +16,8 @@ use Rattle.patterns.proofs.Anchors.{FirstFit, first_fit_exactly}
 use Rattle.patterns.proofs.Decisions.{same_decides}
 use Rattle.kinds.proofs.Places.{nth_none}
 use Rattle.patterns.proofs.Searches.{length_stretch}
-use Rattle.engine.specs.Codes.{codes_of, not_past, ShiftsOf}
+use Rattle.patterns.specs.Codes.{codes_of}
+use Rattle.engine.specs.Codes.{not_past, ShiftsOf}
 
 -- a number, and 1 more where it is 0, is that number, and 1 at least
 pub at_least_one : (n : ℕ) → n + bool_byte (eqb n 0) ≡ max n 1

@@ -10,7 +10,8 @@ use Rattle.engine.specs.Compiled.{Hold}
 use Rattle.engine.specs.Reading.{held}
 use Rattle.engine.specs.Said.{said, parts, HoldsOwn, HoldsAt}
 use Rattle.engine.specs.Searched.{HoldsEach}
-use Rattle.engine.specs.Sequences.{parts_said, HoldsSaid}
+use Rattle.patterns.specs.Sequences.{parts_said}
+use Rattle.engine.specs.Sequences.{HoldsSaid}
 use Rattle.engine.specs.declared.fragment.Fragment.{Fragment}
 use Rattle.engine.specs.declared.oriented.Oriented.{Oriented}
 use Rattle.engine.proofs.Sounds.{oriented_twice}

@@ -19,13 +19,13 @@ use Rattle.patterns.proofs.Mirrors.{mirrored_alike}
 use Rattle.patterns.proofs.Searches.{front_hits, anywhere_hits, kept_none, fragments_none, cut_gap, cut_thing, cut_held}
 use Rattle.patterns.proofs.Sound as reader
 use Rattle.engine.specs.Compiled.{literal_codes}
-use Rattle.engine.specs.Limits.{refusal}
+use Rattle.patterns.specs.Limits.{refusal}
 use Rattle.engine.specs.Reading.{held}
 use Rattle.engine.specs.Said.{said, parts, HoldsAt, Searches}
 use Rattle.engine.specs.Searched.{Accepted, HoldsIf}
-use Rattle.engine.specs.Sequences.{outcome}
-use Rattle.engine.specs.declared.fault.Cause.{Cause}
-use Rattle.engine.specs.declared.fault.Cause.TheVariants.{Grammar, Limit, NoLiteral}
+use Rattle.patterns.specs.Sequences.{outcome}
+use Rattle.faults.specs.declared.fault.Cause.{Cause}
+use Rattle.faults.specs.declared.fault.Cause.TheVariants.{Grammar, Limit, NoLiteral}
 use Rattle.engine.specs.declared.fragment.Fragment.{Fragment}
 use Rattle.engine.specs.declared.oriented.Oriented.{Oriented}
 use Rattle.engine.proofs.Literals.{literals_said, literals_oriented}

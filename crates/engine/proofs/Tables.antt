@@ -9,9 +9,9 @@ use Rattle.kinds.proofs.Places.{nth_none}
 use Rattle.patterns.specs.Fragments as spec
 use Rattle.patterns.specs.Fragments.{fragments, oriented}
 use Rattle.engine.specs.Reading.{held}
-use Rattle.engine.specs.Said.{Said, said, parts, HoldsOwn, HoldsAt}
+use Rattle.patterns.specs.Sequences.{Said, parts_said}
+use Rattle.engine.specs.Said.{said, parts, HoldsOwn, HoldsAt}
 use Rattle.engine.specs.Searched.{HoldsIf}
-use Rattle.engine.specs.Sequences.{parts_said}
 use Rattle.engine.specs.Tables.{free_from, free_slots, at_slot, at_slots, cleared, Slotted, StandsIn, Moved, Apart, StandsOn}
 use Rattle.engine.specs.declared.fragment.Fragment.{Fragment}
 use Rattle.engine.specs.declared.oriented.Oriented.{Oriented}

@@ -5,10 +5,10 @@ use Rattle.std.specs.Option.{option_or}
 use Rattle.patterns.specs.Fragments.{least, span, sum, some, is_gap, endless, wrong, least_with, is_literal, Fragment, cut_from, fragments, wrong_place, first_place, fragment_place, bare_place}
 use Rattle.patterns.specs.Grammar.{Placed}
 use Rattle.patterns.specs.Patterns.{Item}
-use Rattle.engine.specs.Limits.{refusal}
+use Rattle.patterns.specs.Limits.{refusal}
 use Rattle.engine.specs.Tallies.{empty, single, joined, initial, smallest_with, closed, judged, with_gap, begun, extended, with_thing, with_item, tallied}
-use Rattle.engine.specs.declared.fault.Cause.{Cause}
-use Rattle.engine.specs.declared.fault.Cause.TheVariants.{Limit, NoLiteral}
+use Rattle.faults.specs.declared.fault.Cause.{Cause}
+use Rattle.faults.specs.declared.fault.Cause.TheVariants.{Limit, NoLiteral}
 use Rattle.engine.specs.declared.limits.Section.{Section}
 use Rattle.engine.specs.declared.limits.Tally.{Tally}
 

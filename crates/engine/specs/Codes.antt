@@ -3,10 +3,6 @@ use Rattle.std.specs.Prelude.{◌≡◌, ℕ, ◌<◌, if◌then◌else◌, List
 use Rattle.kinds.specs.Alphabet.{Alphabet}
 use Rattle.patterns.specs.Fragments.{shift}
 
--- the codes of elements, in order
-abbrev pub codes_of : {E : Type 0} → Alphabet E → List E → List ℕ
-codes_of a xs = map a.code xs
-
 -- a table has the shift of each index of an anchor
 abbrev pub ShiftsOf : List ℕ → List ℕ → Type 0
 ShiftsOf shifts anchor = (index : ℕ) → index < 256 → slice_index shifts index ≡ shift anchor index

@@ -5,9 +5,9 @@ use Rattle.patterns.specs.Fragments.{bodies}
 use Rattle.patterns.specs.Patterns.{hits, literal, gap}
 use Rattle.patterns.specs.declared.reference.Reference.{Reference}
 use Rattle.patterns.specs.declared.reference.Reference.TheVariants.{Front, Back, Anywhere}
-use Rattle.engine.specs.Sequences.{outcome}
-use Rattle.engine.specs.declared.fault.Cause.{Cause}
-use Rattle.engine.specs.declared.fault.Cause.TheVariants.{Grammar, Limit, NoLiteral}
+use Rattle.patterns.specs.Sequences.{outcome}
+use Rattle.faults.specs.declared.fault.Cause.{Cause}
+use Rattle.faults.specs.declared.fault.Cause.TheVariants.{Grammar, Limit, NoLiteral}
 
 -- whether a text of bytes, within its offsets, hits a reading; or the cause and the place of its refusal
 abbrev pub answer : Reference → List ℕ → List ℕ → Result Bool (Cause × ℕ)

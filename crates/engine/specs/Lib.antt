@@ -3,10 +3,8 @@ pub mod Compiled
 pub mod Compiling
 pub mod Examples
 pub mod Extents
-pub mod Faults
 pub mod Finding
 pub mod Lent
-pub mod Limits
 pub mod Meanings
 pub mod Openings
 pub mod Parts

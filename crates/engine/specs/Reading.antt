@@ -4,8 +4,8 @@ use Rattle.kinds.specs.Alphabet.{Alphabet}
 use Rattle.patterns.specs.Grammar.{Placed}
 use Rattle.patterns.specs.Reader.{items_of}
 use Rattle.engine.specs.Stored.{items}
-use Rattle.engine.specs.declared.fault.Cause.TheVariants.{Grammar}
-use Rattle.engine.specs.declared.fault.Fault.{Fault}
+use Rattle.faults.specs.declared.fault.Cause.TheVariants.{Grammar}
+use Rattle.faults.specs.declared.fault.Fault.{Fault}
 use Rattle.engine.specs.declared.pattern.Pattern.{Pattern}
 
 -- the items that a pattern holds

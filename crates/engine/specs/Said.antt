@@ -1,35 +1,22 @@
 -- What a compiled sequence says, and what its fragments hold.
-use Rattle.std.specs.Prelude.{ℕ, Bool, List, Ok, Err, Option, Result}
+use Rattle.std.specs.Prelude.{ℕ, List, Ok, Err, Option, Result}
+use Rattle.faults.specs.declared.fault.Fault.{Fault}
 use Rattle.patterns.specs.Fragments as spec
 use Rattle.patterns.specs.Fragments.{bodies, fragments, oriented}
-use Rattle.patterns.specs.Grammar.{Placed}
-use Rattle.patterns.specs.Patterns.{hits, least_offset, Placement}
+use Rattle.patterns.specs.Patterns.{least_offset}
 use Rattle.patterns.specs.Search.{least_end}
+use Rattle.patterns.specs.Sequences.{Said}
 use Rattle.patterns.specs.declared.reference.Reference.{Reference}
 use Rattle.engine.specs.Compiled.{Hold}
 use Rattle.engine.specs.Reading.{held}
 use Rattle.engine.specs.Searched.{HoldsEach, Searched}
-use Rattle.engine.specs.declared.fault.Fault.{Fault}
 use Rattle.engine.specs.declared.fragment.Fragment.{Fragment}
 use Rattle.engine.specs.declared.oriented.Oriented.{Oriented}
 use Rattle.engine.specs.declared.starts.Starts.{Starts}
 
--- A sequence: where it is looked for, and the items of its text.
-pub record Said : Type 0 where
-  pub reference : Reference
-  pub items : List Placed
-
 -- what a pattern in the order of its search says
 abbrev pub said : Oriented → Said
 said o = record { reference = o.reference; items = oriented o.reference (held o.pattern) }
-
--- whether a sequence hits codes: the decision of the rule
-abbrev pub hits_in : Said → List ℕ → Bool
-hits_in s xs = hits s.reference (bodies s.items) xs
-
--- a placement of a sequence among codes
-abbrev pub PlacementIn : Said → List ℕ → Type 0
-PlacementIn s xs = Placement s.reference (bodies s.items) xs
 
 -- the least end among codes of a placement of a pattern, in the order of its search, that starts where it may
 abbrev pub end_in : Oriented → Starts → List ℕ → Option ℕ

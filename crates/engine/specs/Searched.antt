@@ -7,7 +7,7 @@ use Rattle.patterns.specs.Grammar.{Placed, Ordered, start}
 use Rattle.patterns.specs.Spans.{Small}
 use Rattle.patterns.specs.declared.reference.Reference.{Reference}
 use Rattle.engine.specs.Compiled.{literal_codes, Holds}
-use Rattle.engine.specs.Limits.{refusal}
+use Rattle.patterns.specs.Limits.{refusal}
 use Rattle.engine.specs.declared.fragment.Fragment.{Fragment}
 
 -- Items in the order of the search that the compiler can have made: in the order of the text they are a text's and not refused,

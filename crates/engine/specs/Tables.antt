@@ -2,8 +2,8 @@
 use Rattle.std.specs.Prelude.{◌≡◌, ℕ, suc, ◌<◌, List, [], ◌∷◌, length, take, Some, None, Ok, Err, Option, Result, slice_set}
 use Rattle.std.specs.List.{slice_get, Contains}
 use Rattle.std.specs.Option.{option_and_then, option_flatten}
-use Rattle.engine.specs.Said.{Said}
-use Rattle.engine.specs.Sequences.{parts_said, HoldsSaid}
+use Rattle.patterns.specs.Sequences.{Said, parts_said}
+use Rattle.engine.specs.Sequences.{HoldsSaid}
 use Rattle.engine.specs.declared.fragment.Fragment.{Fragment}
 
 -- the numbers of the free slots, rising, where the slots are numbered from n on

@@ -1,7 +1,7 @@
 //! Finds the least end of a fragment's placements, from one place where its anchor stands to the
 //! next.
 ghost use Rattle.std.specs.Prelude.{◌≡◌, ◌↔◌, IsTrue, true, length};
-ghost use Rattle.engine.specs.Codes.{codes_of};
+ghost use Rattle.patterns.specs.Codes.{codes_of};
 ghost use Rattle.engine.specs.Finding.{last_useful_of, Bounds, LeastThrough, Sides};
 ghost use Rattle.engine.specs.Reading.{held};
 ghost use Rattle.engine.specs.Said.{Searches};

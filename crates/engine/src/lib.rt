@@ -1,7 +1,6 @@
 //! The engine: it reads pattern texts, compiles them, and searches readings.
 #![tactic(auto)]
 
-mod fault;
 mod find;
 mod fragment;
 mod lent;
@@ -11,7 +10,6 @@ mod mirror;
 mod opening;
 mod oriented;
 mod pattern;
-mod pattern_text;
 mod reach;
 mod reader;
 mod scan;
@@ -23,11 +21,10 @@ mod table;
 pub mod theorems;
 mod token;
 
-pub use fault::{Cause, Fault, FaultLine};
+pub use faults::{Cause, Fault, FaultLine};
 pub use fragment::{Fragment, INDICES};
 pub use lexer::{Lexer, Position, Stop};
-pub use pattern_text::{PatternText, TooLong};
-pub use patterns::Reference;
+pub use patterns::{PatternText, Reference, TooLong};
 pub use sequence::Sequence;
 pub use table::{InTable, SLOTS, Table};
 pub use token::{Gap, RunText, RunsText, Token};

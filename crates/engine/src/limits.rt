@@ -1,14 +1,14 @@
 //! Refuses patterns that are beyond the limits or have a fragment without a literal.
 ghost use Rattle.std.specs.Prelude.{◌≡◌, ◌<◌};
-ghost use Rattle.engine.specs.Limits.{refusal};
+ghost use Rattle.patterns.specs.Limits.{refusal};
 ghost use Rattle.engine.specs.Reading.{held};
 ghost use Rattle.engine.specs.Parts.{item_in, placed_in, HasPart};
 ghost use Rattle.engine.specs.Tallies.{single, joined, initial, closed, with_gap, with_thing, with_item, tallied};
 ghost use Rattle.patterns.specs.Fragments.{before, wrong};
 
-use crate::fault::Cause;
 use crate::pattern::{Part, Pattern, PlacedPart};
 use crate::smaller::smaller;
+use faults::Cause;
 use patterns::Direction;
 
 // A pattern has at most this many fragments.

@@ -1,7 +1,7 @@
 //! The literal that a fragment begins with: where it does not stand near enough before an anchor,
 //! no placement goes through that anchor, and nothing else need be looked at there.
 ghost use Rattle.std.specs.Prelude.{◌≡◌, ◌≤◌, min, ◌↔◌, IsTrue, length};
-ghost use Rattle.engine.specs.Codes.{codes_of};
+ghost use Rattle.patterns.specs.Codes.{codes_of};
 ghost use Rattle.engine.specs.Finding.{Bounds};
 ghost use Rattle.engine.specs.Openings.{opening_code, Excluded, Known, LastOrNone, OpeningFor};
 ghost use Rattle.engine.specs.Parts.{items_in, HasParts};

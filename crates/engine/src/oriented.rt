@@ -2,12 +2,11 @@
 ghost use Rattle.engine.specs.Reading.{held};
 ghost use Rattle.engine.specs.Searched.{Accepted};
 
-use crate::fault::Fault;
 use crate::pattern::Pattern;
-use crate::pattern_text::PatternText;
 use crate::reader::read;
+use faults::Fault;
 use kinds::Kind;
-use patterns::Reference;
+use patterns::{PatternText, Reference};
 
 /// A pattern in the order of its search: mirrored for a sequence from the back.
 #[derive(Drop)]
@@ -52,7 +51,7 @@ impl Pattern {
 
 impl Oriented {
     ghost use Rattle.std.specs.Prelude.{◌≡◌};
-    ghost use Rattle.engine.specs.Sequences.{compiled};
+    ghost use Rattle.patterns.specs.Sequences.{compiled};
     ghost use Rattle.engine.specs.Said.{said_if};
 
     // A text's items in the order of their search, or the text's refusal.

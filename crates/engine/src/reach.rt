@@ -3,7 +3,7 @@ ghost use Rattle.std.specs.Prelude.{◌≡◌, ◌+◌, ◌≤◌, map, length};
 ghost use Rattle.std.specs.Cmp.Lexicographic.{slice_cmp};
 ghost use Rattle.std.specs.List.{slice_get};
 ghost use Rattle.std.specs.Ordering.{nat_cmp};
-ghost use Rattle.engine.specs.Codes.{codes_of};
+ghost use Rattle.patterns.specs.Codes.{codes_of};
 ghost use Rattle.engine.specs.Finding.{Reached, part_of};
 ghost use Rattle.engine.specs.Reading.{held};
 ghost use Rattle.engine.specs.Parts.{item_in, run_in, HasPart, HasRuns};

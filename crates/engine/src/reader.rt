@@ -6,13 +6,12 @@ ghost use Rattle.engine.specs.Reading.{held, Read};
 ghost use Rattle.engine.specs.Tokens.{between_bars, codes_in, lexeme_in, pairs, written};
 ghost use Rattle.patterns.specs.Patterns as item;
 
-use crate::fault::{Cause, Fault};
 use crate::lexer::{Cursor, Lexer, Stop};
 use crate::pattern::{Part, Pattern, PlacedPart, Run};
-use crate::pattern_text::PatternText;
 use crate::token::{Gap, RunsText, Token};
+use faults::{Cause, Fault};
 use kinds::Kind;
-use patterns::Direction;
+use patterns::{Direction, PatternText};
 
 // Puts the items of tokens behind those of a pattern. A text has at most 200 characters, two for
 // each code.

@@ -1,6 +1,7 @@
 //! Looks for the places of a reading where an anchor stands.
 ghost use Rattle.std.specs.Prelude.{◌≡◌, ◌+◌, ◌≤◌, length, IfSome};
-ghost use Rattle.engine.specs.Codes.{codes_of, not_past, ShiftsOf};
+ghost use Rattle.patterns.specs.Codes.{codes_of};
+ghost use Rattle.engine.specs.Codes.{not_past, ShiftsOf};
 ghost use Rattle.patterns.specs.Search.{stands_at, first_fit};
 
 use crate::fragment::INDICES;

@@ -1,9 +1,10 @@
 //! Searches readings for compiled sequences, and shows the numbers of their fragments.
 ghost use Rattle.std.specs.Prelude.{◌≡◌, ℕ, List, Option, Some, None};
 ghost use Rattle.std.specs.Option.{is_some, option_copied};
-ghost use Rattle.engine.specs.Codes.{codes_of};
-ghost use Rattle.engine.specs.Said.{end_in, hits_in, said, Said, HoldsAt};
-ghost use Rattle.engine.specs.Sequences.{shown, HoldsSaid};
+ghost use Rattle.patterns.specs.Codes.{codes_of};
+ghost use Rattle.patterns.specs.Sequences.{hits_in, Said, shown};
+ghost use Rattle.engine.specs.Said.{end_in, said, HoldsAt};
+ghost use Rattle.engine.specs.Sequences.{HoldsSaid};
 ghost use Rattle.engine.specs.declared.fragment.Fragment.{Fragment as Compiled};
 
 use crate::find::least_end;

@@ -1,16 +1,15 @@
 //! Sequences: pattern texts, compiled for their search.
 ghost use Rattle.std.specs.Prelude.{◌≡◌, ◌↔◌, IsTrue, length};
-ghost use Rattle.engine.specs.Codes.{codes_of};
+ghost use Rattle.patterns.specs.Codes.{codes_of};
 
-use crate::fault::Fault;
 use crate::fragment::Fragment;
 use crate::limits::MOST_FRAGMENTS;
 use crate::oriented::Oriented;
-use crate::pattern_text::PatternText;
 use crate::search::{Fragments, found, numbers};
 use arrayvec::ArrayVec;
+use faults::Fault;
 use kinds::{Kind, Reading};
-use patterns::Reference;
+use patterns::{PatternText, Reference};
 use std::marker::{Model, PhantomData};
 
 /// A compiled sequence over elements of a kind: a pattern text that is not refused, and where it is
@@ -25,7 +24,8 @@ pub struct Sequence<K> {
 }
 
 impl<K> Model for Sequence<K> {
-    ghost use Rattle.engine.specs.Said.{Said, said, HoldsOwn};
+    ghost use Rattle.patterns.specs.Sequences.{Said};
+    ghost use Rattle.engine.specs.Said.{said, HoldsOwn};
 
     ghost Value = { Said };
 
@@ -51,8 +51,7 @@ impl Fragments for Own<'_> {
 }
 
 impl<K: Kind> Sequence<K> {
-    ghost use Rattle.engine.specs.Said.{hits_in, PlacementIn};
-    ghost use Rattle.engine.specs.Sequences.{compiled, parts_said, shown};
+    ghost use Rattle.patterns.specs.Sequences.{hits_in, PlacementIn, compiled, parts_said, shown};
 
     /// Compiles a pattern text for its search, or refuses it (docs/PATTERNS.md, "Refusals"). The
     /// number of the sequence, from 1, goes into the refusal alone.

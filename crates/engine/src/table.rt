@@ -2,7 +2,7 @@
 ghost use Rattle.std.specs.Prelude.{◌≡◌, ◌<◌, ◌↔◌, IfOk, IsTrue, Some, None, length, replicate, slice_set};
 ghost use Rattle.std.specs.List.{slice_get};
 ghost use Rattle.std.specs.Option.{option_copied};
-ghost use Rattle.engine.specs.Codes.{codes_of};
+ghost use Rattle.patterns.specs.Codes.{codes_of};
 ghost use Rattle.engine.specs.Tables.{at_slot, free_slots};
 
 use crate::fragment::Fragment;
@@ -114,7 +114,7 @@ pub struct InTable<K> {
 impl<K> Model for InTable<K> {
     ghost use Rattle.std.specs.Prelude.{◌≡◌, length};
     ghost use Rattle.engine.specs.Said.{said};
-    ghost use Rattle.engine.specs.Sequences.{parts_said};
+    ghost use Rattle.patterns.specs.Sequences.{parts_said};
     ghost use Rattle.engine.specs.Tables.{Slotted};
 
     ghost Value = { Slotted };
@@ -171,8 +171,7 @@ impl<K: Kind> Sequence<K> {
 }
 
 impl<K: Kind> InTable<K> {
-    ghost use Rattle.engine.specs.Said.{hits_in, PlacementIn};
-    ghost use Rattle.engine.specs.Sequences.{parts_said, shown};
+    ghost use Rattle.patterns.specs.Sequences.{hits_in, PlacementIn, parts_said, shown};
     ghost use Rattle.engine.specs.Tables.{StandsIn, cleared};
 
     /// How many fragments the sequence has.

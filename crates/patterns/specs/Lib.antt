@@ -1,6 +1,9 @@
+pub mod Codes
 pub mod Fragments
 pub mod Grammar
+pub mod Limits
 pub mod Patterns
 pub mod Reader
 pub mod Search
+pub mod Sequences
 pub mod Spans

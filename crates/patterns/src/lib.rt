@@ -2,8 +2,10 @@
 #![tactic(auto)]
 
 mod direction;
+mod pattern_text;
 mod reference;
 pub mod theorems;
 
 pub use direction::Direction;
+pub use pattern_text::{PatternText, TooLong};
 pub use reference::Reference;

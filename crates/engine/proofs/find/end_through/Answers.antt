@@ -1,6 +1,6 @@
 use Rattle.std.proofs.Common.{rules, tests, ◌≡◌, ◌+◌, length, drop, sym, subst, arith}
 use lib.ListN.{length-map}
-use Rattle.engine.specs.Codes.{codes_of}
+use Rattle.patterns.specs.Codes.{codes_of}
 use Rattle.engine.specs.Finding.{Reached, Start, part_of}
 use Rattle.engine.specs.Reading.{held}
 use Rattle.engine.specs.Stored.{placed_of}

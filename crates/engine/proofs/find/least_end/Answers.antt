@@ -3,7 +3,7 @@ use lib.ListN.{length-map}
 use Rattle.std.proofs.lemmas.Bool.{both_ways}
 use Rattle.patterns.specs.Fragments.{anchor, bodies}
 use Rattle.patterns.specs.Spans.{NoLess}
-use Rattle.engine.specs.Codes.{codes_of}
+use Rattle.patterns.specs.Codes.{codes_of}
 use Rattle.engine.specs.Stored.{placed_of}
 use Rattle.engine.proofs.Least.{sides, bounds_of, last_far, useful_far, best_begins, none_begins, best_ends, next_before, best_next, best_stays, none_through}
 use Rattle.engine.proofs.Openings.{unlooked}

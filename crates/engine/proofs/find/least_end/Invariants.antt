@@ -1,7 +1,7 @@
 use Rattle.std.proofs.Common.{◌-◌, ◌≤◌}
 use Rattle.patterns.specs.Fragments as spec
 use Rattle.patterns.specs.Fragments.{anchor, bodies}
-use Rattle.engine.specs.Codes.{codes_of}
+use Rattle.patterns.specs.Codes.{codes_of}
 use Rattle.engine.specs.Finding.{part_of}
 use Rattle.engine.specs.Openings.{Known, OpeningOf}
 use Rattle.engine.specs.Reading.{held}

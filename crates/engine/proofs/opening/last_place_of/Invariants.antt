@@ -1,5 +1,5 @@
 -- The code stands at no place from `place` on.
-use Rattle.engine.specs.Codes.{codes_of}
+use Rattle.patterns.specs.Codes.{codes_of}
 use Rattle.engine.specs.Openings.{NoneOf}
 use Rattle.engine.proofs.opening.last_place_of.Given as goal
 

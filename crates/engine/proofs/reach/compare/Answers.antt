@@ -14,7 +14,7 @@ use Rattle.std.proofs.lemmas.Iterator.Search.{cmp_from_yields_List}
 use Rattle.patterns.specs.Patterns.{compared}
 use Rattle.patterns.specs.declared.direction.Direction.TheVariants.{LastOn}
 use Rattle.patterns.specs.Search.{stretch}
-use Rattle.engine.specs.Codes.{codes_of}
+use Rattle.patterns.specs.Codes.{codes_of}
 use Rattle.engine.proofs.Comparing.{compared_first, compared_last, yields_rev_range}
 use Rattle.engine.proofs.reach.compare.Goals as goal
 

@@ -1,6 +1,6 @@
 use Rattle.std.proofs.Common.{sym, ◌∙◌}
 use lib.ListN.{length-map}
-use Rattle.engine.specs.Codes.{codes_of}
+use Rattle.patterns.specs.Codes.{codes_of}
 use Rattle.engine.proofs.Reaching.{any_step}
 use Rattle.engine.proofs.reach.pass_any.Goals as goal
 

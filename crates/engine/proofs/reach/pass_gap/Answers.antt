@@ -1,7 +1,7 @@
 use Rattle.std.proofs.Common.{rules, ◌&&◌, ltb, sym, ap, ◌∙◌}
 use lib.ListN.{length-map}
 use Rattle.rows.specs.Rows.{some_distance}
-use Rattle.engine.specs.Codes.{codes_of}
+use Rattle.patterns.specs.Codes.{codes_of}
 use Rattle.engine.proofs.Reaching.{Furthest, gap_step}
 use Rattle.engine.proofs.reach.pass_gap.Goals as goal
 

@@ -2,7 +2,7 @@ use Rattle.std.proofs.Common.{true, map, get_or, take, sym, ap, ◌∙◌, subst
 use Rattle.std.proofs.lemmas.List.{map_more}
 use Rattle.patterns.specs.Patterns.{group, range}
 use Rattle.patterns.specs.declared.direction.Direction.TheVariants.{FirstOn}
-use Rattle.engine.specs.Codes.{codes_of}
+use Rattle.patterns.specs.Codes.{codes_of}
 use Rattle.engine.specs.Stored.{run_codes}
 use Rattle.engine.specs.Reaching.{Stepped}
 use Rattle.engine.specs.declared.pattern.Run.{Run}

@@ -1,6 +1,6 @@
 use Rattle.std.proofs.Common.{map, take}
 use Rattle.patterns.specs.Patterns.{group}
-use Rattle.engine.specs.Codes.{codes_of}
+use Rattle.patterns.specs.Codes.{codes_of}
 use Rattle.engine.specs.Stored.{run_codes}
 use Rattle.engine.specs.Reaching.{Stepped}
 use Rattle.engine.proofs.reach.pass_group.Given as goal

@@ -1,5 +1,5 @@
 use Rattle.patterns.specs.Patterns.{literal}
-use Rattle.engine.specs.Codes.{codes_of}
+use Rattle.patterns.specs.Codes.{codes_of}
 use Rattle.engine.proofs.Reaching.{kept_step, literal_length}
 use Rattle.engine.proofs.reach.pass_literal.Goals as goal
 

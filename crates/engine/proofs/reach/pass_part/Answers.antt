@@ -1,6 +1,6 @@
 use Rattle.std.proofs.Common.{sym, ap, ◌∙◌, subst}
 use Rattle.patterns.specs.Patterns.{matches, other}
-use Rattle.engine.specs.Codes.{codes_of}
+use Rattle.patterns.specs.Codes.{codes_of}
 use Rattle.engine.specs.Stored.{item_of}
 use Rattle.engine.specs.Reaching.{Stepped, range_item}
 use Rattle.engine.proofs.Reaching.{alike, others}

@@ -1,7 +1,7 @@
 use Rattle.std.proofs.Common.{◌≡◌, ◌-◌, true, [], ◌∷◌, get_or, take, drop, sym, ap, ◌∙◌, subst}
 use Rattle.std.proofs.lemmas.List.{take_all, take-append-drop, take_more}
 use Rattle.patterns.specs.Fragments.{bodies}
-use Rattle.engine.specs.Codes.{codes_of}
+use Rattle.patterns.specs.Codes.{codes_of}
 use Rattle.engine.specs.Finding.{Reached}
 use Rattle.engine.specs.Stored.{item_of, items, all_parts_within}
 use Rattle.engine.specs.declared.pattern.Part.TheVariants as part

@@ -1,6 +1,6 @@
 use Rattle.std.proofs.Common.{take}
 use Rattle.patterns.specs.Fragments.{bodies}
-use Rattle.engine.specs.Codes.{codes_of}
+use Rattle.patterns.specs.Codes.{codes_of}
 use Rattle.engine.specs.Finding.{Reached}
 use Rattle.engine.specs.Stored.{items}
 use Rattle.engine.proofs.reach.reach.Given as goal

@@ -2,7 +2,7 @@ use Rattle.std.proofs.Common.{◌≡◌, ◌+◌, ◌-◌, ◌%◌, max, length,
 use Rattle.std.proofs.lemmas.List.{length-map}
 use Rattle.std.proofs.lemmas.Bool.{cases_lt}
 use Rattle.patterns.specs.Search.{first_fit}
-use Rattle.engine.specs.Codes.{codes_of}
+use Rattle.patterns.specs.Codes.{codes_of}
 use Rattle.engine.proofs.Fits.{code_at, code_past, found_here, found_none, found_last, found_past, moves_on, at_least_one}
 use Rattle.engine.proofs.scan.next_fit_up_to.Goals as goal
 

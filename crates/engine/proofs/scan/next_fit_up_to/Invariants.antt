@@ -1,6 +1,7 @@
 use Rattle.std.proofs.Common.{◌≡◌, ◌+◌, ◌-◌, ◌≤◌, length}
 use Rattle.patterns.specs.Search.{first_fit}
-use Rattle.engine.specs.Codes.{codes_of, ShiftsOf}
+use Rattle.patterns.specs.Codes.{codes_of}
+use Rattle.engine.specs.Codes.{ShiftsOf}
 use Rattle.engine.proofs.scan.next_fit_up_to.Given as goal
 
 -- the window stands no earlier than the search begins, and no place before its own is missed

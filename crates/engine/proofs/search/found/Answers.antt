@@ -1,7 +1,7 @@
 use Rattle.std.proofs.Common.{is_some, map, ap, ◌∙◌}
 use Rattle.patterns.specs.Fragments.{bodies}
 use Rattle.patterns.specs.Search.{least_end}
-use Rattle.engine.specs.Codes.{codes_of}
+use Rattle.patterns.specs.Codes.{codes_of}
 use Rattle.engine.specs.Reading.{held}
 use Rattle.engine.proofs.Searching.{map_reverse}
 use Rattle.engine.proofs.Sounds.{front_decides, back_decides, anywhere_decides}

@@ -3,7 +3,7 @@ use Rattle.std.specs.Option.{option_copied}
 use Rattle.std.proofs.lemmas.List.{length-map}
 use Rattle.patterns.specs.Fragments.{bodies}
 use Rattle.patterns.specs.Search.{least_end}
-use Rattle.engine.specs.Codes.{codes_of}
+use Rattle.patterns.specs.Codes.{codes_of}
 use Rattle.engine.proofs.Searching.{first_some, first_none, first_next, come_past, come_none, come_next, come_all, come_ninth}
 use Rattle.engine.proofs.search.last_end.Goals as goal
 

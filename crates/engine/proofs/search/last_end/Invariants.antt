@@ -1,4 +1,4 @@
-use Rattle.engine.specs.Codes.{codes_of}
+use Rattle.patterns.specs.Codes.{codes_of}
 use Rattle.engine.specs.Said.{HoldsAt}
 use Rattle.engine.proofs.Searching.{ComeTo}
 use Rattle.engine.proofs.search.last_end.Given as goal

@@ -2,9 +2,9 @@ use Rattle.std.proofs.Common.{ℕ, List, Ok, Err, Result, sym, ap, ◌∙◌}
 use Rattle.patterns.specs.Fragments.{oriented}
 use Rattle.patterns.specs.Grammar.{Placed}
 use Rattle.engine.specs.Reading.{held}
-use Rattle.engine.specs.Said.{Said}
-use Rattle.engine.specs.declared.fault.Cause.{Cause}
-use Rattle.engine.specs.declared.fault.Fault.{Fault}
+use Rattle.patterns.specs.Sequences.{Said}
+use Rattle.faults.specs.declared.fault.Cause.{Cause}
+use Rattle.faults.specs.declared.fault.Fault.{Fault}
 use Rattle.engine.proofs.Sounds.{compiled_accepted, oriented_twice}
 use Rattle.engine.proofs.oriented.Oriented.of_text.Goals as goal
 

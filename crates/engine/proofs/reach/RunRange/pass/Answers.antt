@@ -1,5 +1,5 @@
 use Rattle.std.proofs.Common.{length}
-use Rattle.engine.specs.Codes.{codes_of}
+use Rattle.patterns.specs.Codes.{codes_of}
 use Rattle.engine.specs.Reaching.{range_item}
 use Rattle.engine.proofs.Reaching.{kept_step, range_length}
 use Rattle.engine.proofs.reach.RunRange.pass.Goals as goal

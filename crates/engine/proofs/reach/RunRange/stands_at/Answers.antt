@@ -4,7 +4,7 @@ use Rattle.std.specs.Ordering.{is_ge, is_le, nat_cmp}
 use Rattle.std.specs.Cmp.Lexicographic.{slice_cmp}
 use Rattle.patterns.specs.Patterns.{compared}
 use Rattle.patterns.specs.Search.{stretch}
-use Rattle.engine.specs.Codes.{codes_of}
+use Rattle.patterns.specs.Codes.{codes_of}
 use Rattle.engine.proofs.Comparing.{range_is}
 use Rattle.engine.proofs.reach.RunRange.stands_at.Goals as goal
 use Rattle.engine.proofs.reach.RunRange.stands_at.Goals.{then-is_ge, else-is_ge}

@@ -1,6 +1,6 @@
 use Rattle.std.proofs.Common.{Some, eqb, ap, ◌∙◌}
 use Rattle.std.specs.Option.{option_eq}
-use Rattle.engine.specs.Codes.{codes_of}
+use Rattle.patterns.specs.Codes.{codes_of}
 use Rattle.engine.proofs.Reaching.{literal_at}
 use Rattle.engine.proofs.reach.StandingQuestion.ask.Goals as goal
 

@@ -1,5 +1,5 @@
 use Rattle.std.proofs.Common.{length, ap, ◌∙◌}
-use Rattle.engine.specs.Sequences.{parts_said}
+use Rattle.patterns.specs.Sequences.{parts_said}
 use Rattle.engine.proofs.Shows.{counted}
 use Rattle.engine.proofs.sequence.Sequence.fragment_count.Goals as goal
 

@@ -3,7 +3,7 @@ use Rattle.std.specs.List.{slice_get}
 use Rattle.patterns.specs.Fragments.{bodies}
 use Rattle.patterns.specs.Patterns.{hits}
 use Rattle.patterns.proofs.Decisions.{hits_exactly}
-use Rattle.engine.specs.Codes.{codes_of}
+use Rattle.patterns.specs.Codes.{codes_of}
 use Rattle.engine.specs.Said.{HoldsAt}
 use Rattle.engine.proofs.Shows.{held_each}
 use Rattle.engine.proofs.sequence.Sequence.hits.Goals as goal

@@ -1,6 +1,6 @@
 use Rattle.std.proofs.Common.{[], ◌∷◌, ◌++◌, length, set, Some, refl, sym, ap, ◌∙◌, subst, append_assoc, arith}
 use Rattle.engine.specs.Said.{said}
-use Rattle.engine.specs.Sequences.{parts_said}
+use Rattle.patterns.specs.Sequences.{parts_said}
 use Rattle.engine.specs.Tables.{Moved, Slotted}
 use Rattle.engine.proofs.Shows.{counted}
 use Rattle.engine.proofs.Tables.{Filling, filling_push, moved}

@@ -1,7 +1,8 @@
 use Rattle.std.proofs.Common.{sym, ap, ◌∙◌, subst}
 use Rattle.std.specs.List.{slice_get}
 use Rattle.engine.specs.Said.{said}
-use Rattle.engine.specs.Sequences.{shown, HoldsSaid}
+use Rattle.patterns.specs.Sequences.{shown}
+use Rattle.engine.specs.Sequences.{HoldsSaid}
 use Rattle.engine.proofs.Shows.{held_each, holds_said}
 use Rattle.engine.proofs.sequence.Sequence.numbers.Goals as goal
 

@@ -2,7 +2,7 @@ use Rattle.std.proofs.Common.{sym, ap, ◌∙◌, subst}
 use Rattle.patterns.specs.Fragments.{bodies}
 use Rattle.patterns.specs.Patterns.{hits}
 use Rattle.patterns.proofs.Decisions.{hits_exactly}
-use Rattle.engine.specs.Codes.{codes_of}
+use Rattle.patterns.specs.Codes.{codes_of}
 use Rattle.engine.specs.Said.{HoldsAt}
 use Rattle.engine.specs.Tables.{at_slots, StandsIn}
 use Rattle.engine.proofs.Shows.{holds_oriented}

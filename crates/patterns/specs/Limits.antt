@@ -2,8 +2,8 @@
 use Rattle.std.specs.Prelude.{ℕ, List, Some, None, Option}
 use Rattle.patterns.specs.Fragments.{fragments, limit_place, bare_place}
 use Rattle.patterns.specs.Grammar.{Placed}
-use Rattle.engine.specs.declared.fault.Cause.{Cause}
-use Rattle.engine.specs.declared.fault.Cause.TheVariants.{Limit, NoLiteral}
+use Rattle.faults.specs.declared.fault.Cause.{Cause}
+use Rattle.faults.specs.declared.fault.Cause.TheVariants.{Limit, NoLiteral}
 
 -- a limit comes before a missing literal, each at its smallest place
 abbrev pub refusal : List Placed → Option (Cause × ℕ)

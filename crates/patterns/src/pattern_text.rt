@@ -33,3 +33,10 @@ impl<'t> TryFrom<&'t [u8]> for PatternText<'t> {
         Ok(PatternText { characters })
     }
 }
+
+/// The text without characters.
+impl Default for PatternText<'_> {
+    fn default() -> Self {
+        PatternText { characters: &[] }
+    }
+}

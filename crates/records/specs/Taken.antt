@@ -1,0 +1,44 @@
+-- What the code reads from records, in the words of `Reading`.
+use Rattle.std.specs.Prelude.{◌≡◌, ℕ, Bool, true, List, map, Ok, Err, Result}
+use Rattle.faults.specs.Faults.{outside}
+use Rattle.faults.specs.declared.fault.Cause.TheVariants.{Field}
+use Rattle.faults.specs.declared.fault.Fault.{Fault}
+use Rattle.records.specs.Entries as entry
+use Rattle.records.specs.Entries.{printable, label_character}
+use Rattle.records.specs.Reading as reading
+use Rattle.records.specs.declared.rest.Characters.{Characters}
+use Rattle.records.specs.declared.rest.Characters.TheVariants.{Any, Printable, Label}
+use Rattle.records.specs.declared.rest.Rest.{Rest}
+use Rattle.records.specs.declared.signature.SequenceText.{SequenceText}
+use Rattle.records.specs.declared.signature.Signature.{Signature}
+
+-- which bytes a text may have
+abbrev pub characters_in : Characters → ℕ → Bool
+characters_in Any c = true
+characters_in Printable c = printable c
+characters_in Label c = label_character c
+
+-- the bytes that are left
+abbrev pub rest_in : Rest → reading.Rest
+rest_in r = record { place = r.place; bytes = r.bytes.now }
+
+-- What the code answers, seen by a view, is what is read; or the fault is that of a field at the place that is at fault.
+abbrev pub Gives : {X Y : Type 0} → (X → Y) → Result X Fault → Result Y ℕ → Type 0
+Gives view (Ok x) read = read ≡ Ok (view x)
+Gives view (Err f) read = (read ≡ Err f.place) × (f ≡ outside Field f.place)
+
+-- the same of a value and the bytes that are left behind it
+abbrev pub GivesRest : {X Y : Type 0} → (X → Y) → Result (X × Rest) Fault → reading.Read Y → Type 0
+GivesRest view result read = Gives (λ x. (view x.0, rest_in x.1)) result read
+
+-- a sequence
+abbrev pub sequence_in : SequenceText → entry.Sequence
+sequence_in s = record { reference = s.reference; text = s.text.characters.now }
+
+-- sequences
+abbrev pub sequences_in : List SequenceText → List entry.Sequence
+sequences_in ss = map sequence_in ss
+
+-- a signature
+abbrev pub signature_in : Signature → entry.Signature
+signature_in s = record { id = s.id; specific = s.specific; sequences = sequences_in s.sequences.items }

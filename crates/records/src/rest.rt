@@ -1,5 +1,5 @@
 //! The bytes of a record that are still to be read.
-ghost use Rattle.std.specs.Prelude.{◌≡◌, ◌+◌, ◌<◌, ◌^◌, length};
+ghost use Rattle.std.specs.Prelude.{◌≡◌, ◌+◌, ◌<◌, ◌≤◌, ◌^◌, length, IfOk};
 ghost use Rattle.kinds.specs.Alphabet.{within};
 
 use faults::{Cause, Fault};
@@ -23,6 +23,7 @@ pub(crate) enum Characters {
 }
 
 impl Characters {
+    ghost use Rattle.std.specs.List.{list_all};
     ghost use Rattle.records.specs.Taken.{characters_in};
 
     // Whether a byte is one of them.
@@ -34,6 +35,13 @@ impl Characters {
             Characters::Printable => (0x20..=0x7E).contains(&c),
             Characters::Label => c.is_ascii_lowercase() || c.is_ascii_digit(),
         }
+    }
+
+    // Whether each byte of a text is one of them.
+    fn make_up(self, text: &[u8]) -> bool
+        ensures { result ≡ list_all (characters_in self) text.now }
+    {
+        text.iter().all(|c| self.contain(*c))
     }
 }
 
@@ -60,7 +68,8 @@ impl<'r> Rest<'r> {
     // So many bytes as one field.
     #[tactic(auto, unfolding(crate::specs::Reading::bytes_at))]
     pub(crate) fn bytes(self, len: usize) -> Result<(&'r [u8], Rest<'r>), Fault>
-        ensures { GivesRest (λ bytes. bytes.now) result (bytes_at len (rest_in self.entry)) }
+        ensures read { GivesRest (λ bytes. bytes.now) result (bytes_at len (rest_in self.entry)) }
+        ensures long { IfOk result (λ read. length read.0.now ≡ len) }
     {
         if self.bytes.len() < len {
             return Err(self.fault());
@@ -106,15 +115,16 @@ impl<'r> Rest<'r> {
         most: u8,
         characters: Characters,
     ) -> Result<(&'r [u8], Rest<'r>), Fault>
-        ensures { GivesRest (λ text. text.now) result
+        ensures read { GivesRest (λ text. text.now) result
             (text_at (within least most) (characters_in characters) (rest_in self.entry)) }
+        ensures short { IfOk result (λ read. length read.0.now ≤ most) }
     {
         let (len, behind_len) = self.byte()?;
         if !(least..=most).contains(&len) {
             return Err(self.fault());
         }
         let (text, rest) = behind_len.bytes(usize::from(len))?;
-        if !text.iter().all(|c| characters.contain(*c)) {
+        if !characters.make_up(text) {
             return Err(behind_len.fault());
         }
         Ok((text, rest))

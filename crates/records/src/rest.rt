@@ -1,8 +1,11 @@
 //! The bytes of a record that are still to be read.
-ghost use Rattle.std.specs.Prelude.{◌≡◌, ◌+◌, ◌<◌, ◌≤◌, ◌^◌, length, IfOk};
+ghost use Rattle.std.specs.Prelude.{◌≡◌, ◌==◌, ◌+◌, ◌<◌, ◌≤◌, ◌^◌, length, IfOk};
 ghost use Rattle.kinds.specs.Alphabet.{within};
 
 use faults::{Cause, Fault};
+
+// A body stands behind the length and the kind of its record.
+const BODY_PLACE: usize = 4;
 
 /// The bytes of a record from a place on.
 #[derive(Clone, Copy)]
@@ -51,11 +54,21 @@ impl<'r> Rest<'r> {
     ghost use Rattle.faults.specs.Faults.{outside};
     ghost use Rattle.faults.specs.declared.fault.Cause.TheVariants.{Field};
 
-    // A whole record.
-    pub(crate) fn of(bytes: &'r [u8]) -> Rest<'r>
-        ensures { rest_in result ≡ record { place = 0; bytes = bytes.now } }
+    // A whole body, which stands behind the first four bytes of its record.
+    pub(crate) fn of_body(body: &'r [u8]) -> Rest<'r>
+        ensures { rest_in result ≡ record { place = 4; bytes = body.now } }
     {
-        Rest { place: 0, bytes }
+        Rest {
+            place: BODY_PLACE,
+            bytes: body,
+        }
+    }
+
+    // Whether no byte is left.
+    pub(crate) fn is_empty(self) -> bool
+        ensures { result ≡ (length self.entry.bytes.now == 0) }
+    {
+        self.bytes.is_empty()
     }
 
     // The refusal of the field that begins here.

@@ -1,8 +1,9 @@
 -- Reading so many values one after the other, as a loop does.
-use Rattle.std.proofs.Common.{◌≡◌, ℕ, zero, suc, ◌-◌, ◌+◌, ◌≤◌, ◌<◌, List, [], ◌∷◌, ◌++◌, Result, Ok, Err, refl, sym, ap, ◌∙◌, append_assoc, arith}
+use Rattle.std.proofs.Common.{◌≡◌, ℕ, zero, suc, ◌-◌, ◌+◌, ◌≤◌, ◌<◌, List, [], ◌∷◌, ◌++◌, Option, Some, Result, Ok, Err, refl, sym, ap, ◌∙◌, append_assoc, arith}
 use Rattle.std.proofs.lemmas.List.{append-nil}
-use Rattle.records.specs.Reading.{Rest, Read, ◌>>=◌, sequence_at, sequences_at}
-use Rattle.records.specs.Entries.{Sequence}
+use Rattle.records.specs.Reading.{Rest, Read, ◌>>=◌, allowed, word_at, text_at, sequence_at, sequences_at, id_allowed, ids_from, labels_from}
+use Rattle.records.specs.Entries.{label_character}
+use Rattle.kinds.specs.Alphabet.{within}
 
 -- what was read before, and what is still read
 abbrev pub with_front : {A : Type 0} → List A → Read (List A) → Read (List A)
@@ -47,3 +48,16 @@ module _ {S A : Type 0} (one : S → Rest → Read A) (next : S → A → S) (ma
 pub sequences_repeat : Repeats (λ (_ : Unit {0}). sequence_at) (λ s _. s) (λ _. sequences_at)
 unfolding sequences_at
 sequences_repeat = record { none = λ _ r. refl; more = λ _ n r. refl }
+
+-- labels
+pub labels_repeat : Repeats (λ (_ : Unit {0}). text_at (within 1 8) label_character) (λ s _. s) (λ _. labels_from)
+unfolding labels_from
+labels_repeat = record { none = λ _ r. refl; more = λ _ n r. refl }
+
+-- ids, with the one before remembered
+abbrev pub id_at : ℕ → Option ℕ → Rest → Read ℕ
+id_at bound before r = allowed (id_allowed bound before) r (word_at r)
+
+pub ids_repeat : (bound : ℕ) → Repeats (id_at bound) (λ _ id. Some id) (ids_from bound)
+unfolding ids_from
+ids_repeat bound = record { none = λ _ r. refl; more = λ _ n r. refl }

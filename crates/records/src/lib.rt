@@ -1,7 +1,11 @@
 //! Records: what they enter, what stands, and what the calls of a catalogue answer.
 #![tactic(auto)]
 
+mod format;
 mod rest;
 mod signature;
 
-pub use signature::{SequenceText, Signature};
+pub use format::{
+    Format, Label, MOST_IDS, MOST_LABEL_CHARACTERS, MOST_LABELS, MOST_NAME_CHARACTERS,
+};
+pub use signature::{MOST_SEQUENCES, SequenceText, Signature};

@@ -22,7 +22,7 @@ pub(crate) enum Characters {
     // The printable characters of ASCII.
     Printable,
     // Small letters and digits.
-    Label,
+    LowercaseOrDigit,
 }
 
 impl Characters {
@@ -36,7 +36,7 @@ impl Characters {
         match self {
             Characters::Any => true,
             Characters::Printable => (0x20..=0x7E).contains(&c),
-            Characters::Label => c.is_ascii_lowercase() || c.is_ascii_digit(),
+            Characters::LowercaseOrDigit => c.is_ascii_lowercase() || c.is_ascii_digit(),
         }
     }
 

@@ -2,10 +2,12 @@
 #![tactic(auto)]
 
 mod format;
+mod record;
 mod rest;
 mod signature;
 
 pub use format::{
     Format, Label, MOST_IDS, MOST_LABEL_CHARACTERS, MOST_LABELS, MOST_NAME_CHARACTERS,
 };
+pub use record::{Entry, Record, read};
 pub use signature::{MOST_SEQUENCES, SequenceText, Signature};

@@ -11,3 +11,6 @@ pub use format::{
 };
 pub use record::{Entry, Record, read};
 pub use signature::{MOST_SEQUENCES, SequenceText, Signature};
+
+#[cfg(test)]
+mod tests;

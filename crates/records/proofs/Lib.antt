@@ -1,1 +1,3 @@
+pub mod Fields
 pub mod Loops
+pub mod Readers

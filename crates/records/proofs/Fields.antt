@@ -1,20 +1,29 @@
 -- The fields of records: bytes, words and texts.
 use Rattle.std.proofs.Common.{◌≡◌, ℕ, zero, suc, ◌+◌, ◌<◌, ◌≤◌, ◌^◌, Bool, true, false, cond, ltb, List, [], ◌∷◌, ◌++◌, length, get_or, take, drop, Result, Ok, Err, refl, sym, ap, subst, ◌∙◌, arith, length-append}
+use Rattle.kinds.specs.Alphabet.{within}
+use Rattle.std.specs.Prelude.{nat_le}
 use Rattle.std.specs.Int.{w16, to_le_bytes, from_le_bytes}
 use Rattle.std.specs.List.{AllByRecursion, list_all}
-use Rattle.std.proofs.lemmas.Bool.{ltb-false, le-ltb}
+use Rattle.std.proofs.lemmas.Bool.{ltb-false, le-ltb, leb-true, le-leb, and_parts, and_from}
 use Rattle.std.proofs.lemmas.List.{take_at, drop_at, take-append-drop, length-take}
 use Rattle.std.proofs.lemmas.List.Elements.{All-from_recursion}
 use Rattle.std.proofs.lemmas.Nat.{le_bytes_2, from_le_bytes-to_le_bytes_2}
 use Rattle.records.specs.Entries.{word, byte, text_fields, joined}
 use Rattle.records.specs.Reading.{Rest, Read, ◌>>=◌, allowed, bytes_at, byte_at, word_at, text_at}
-use Rattle.records.proofs.Readers.{IsBytes, IsBytes-front, Takes, Field, Field-allowed, Field-fits, Reader, Reader-one, Reader-then, Reader-is, Anything, One, Then, bind_ok, bind_err, ok_is}
+use Rattle.records.proofs.Readers.{IsBytes, IsBytes-front, Takes, Field, Field-allowed, Field-fits, Reader, Reader-one, Reader-then, Reader-is, Anything, One, Then, one_before, bind_ok, bind_err, ok_is}
 
 -- a value by its place in a list of bytes
 get_or_below : (bytes : List ℕ) → IsBytes bytes → (i : ℕ) → get_or bytes i 0 < 256
 get_or_below [] fits i = omega arith
 get_or_below (b ∷ bytes) fits zero = fits.0
 get_or_below (b ∷ bytes) fits (suc i) = get_or_below bytes fits.1 i
+
+-- a number within its bounds
+pub within_is : (low high n : ℕ) → within low high n ≡ true → (low ≤ n) × (n ≤ high)
+within_is low high n e = let both = and_parts (nat_le low n) (nat_le n high) e in (leb-true _ _ both.0, leb-true _ _ both.1)
+
+pub is_within : (low high n : ℕ) → low ≤ n → n ≤ high → within low high n ≡ true
+is_within low high n above below = and_from (nat_le low n) (nat_le n high) (le-leb _ _ above) (le-leb _ _ below)
 
 -- ---- so many bytes
 
@@ -122,7 +131,7 @@ text_reads lengths characters =
               len = ap lengths len ∙ h.first.holds.1;
               characters = h.others.holds.1;
               fits = h.others.holds.0.1;
-              spelled = h.all ∙ ap (λ before. before ++ h.behind) h.first.field ∙ ap (λ behind. byte h.part ∷ behind) h.others.field ∙ ap (λ n. byte n ∷ bytes ∷ []) (sym len);
+              spelled = one_before h ∙ ap (λ behind. byte h.part ∷ behind) h.others.field ∙ ap (λ n. byte n ∷ bytes ∷ []) (sym len);
             })
         (λ bytes fields h.
             record {
@@ -136,3 +145,13 @@ text_reads lengths characters =
         (Reader-then Anything (λ len r. allowed (list_all characters) r (bytes_at len r)) (λ len. One (λ bytes. ((length bytes ≡ len) × IsBytes bytes) × (list_all characters bytes ≡ true)) (λ bytes. bytes))
             (Reader-one (Field-allowed lengths byte_field))
             (λ len. Reader-one (Field-allowed (list_all characters) (Field-fits (bytes_field len)))))
+
+-- a byte that passes a test, and a word
+abbrev pub Byte : (ℕ → Bool) → ℕ → List (List ℕ) → Type 0
+Byte p = One (λ n. Unit {0} × (p n ≡ true)) byte
+
+abbrev pub Word : (ℕ → Bool) → ℕ → List (List ℕ) → Type 0
+Word p = One (λ n. (n < 65536) × (p n ≡ true)) word
+
+abbrev pub AnyWord : ℕ → List (List ℕ) → Type 0
+AnyWord = One (λ n. n < 65536) word

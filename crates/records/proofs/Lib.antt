@@ -1,3 +1,4 @@
 pub mod Fields
 pub mod Loops
 pub mod Readers
+pub mod Signatures

@@ -1,7 +1,7 @@
 -- Readers: how values are read from fields, and how reading one and then another is put together.
 use Rattle.std.proofs.Common.{◌≡◌, ℕ, zero, suc, ◌+◌, ◌<◌, ◌≤◌, Bool, true, false, cond, List, [], ◌∷◌, ◌++◌, length, Result, Ok, Err, refl, sym, ap, subst, ◌∙◌, inl, inr, ◌⊎◌, append_assoc, arith, length-append}
 use Rattle.std.specs.Prelude.{◌==◌, if◌then◌else◌}
-use Rattle.std.specs.List.{AllByRecursion}
+use Rattle.std.specs.List.{AllByRecursion, flat_map}
 use Rattle.std.proofs.lemmas.Bool.{eqb-true}
 use Rattle.std.proofs.lemmas.List.{append-nil, nil_from_length}
 use Rattle.std.proofs.lemmas.List.Concat.{flat_map-append}
@@ -197,6 +197,10 @@ pub record Then {A B : Type 0} (R : A → List (List ℕ) → Type 0) (S : A →
   pub others : S part y behind
   pub all : fields ≡ before ++ behind
 
+-- the fields, where the part stands in one
+pub one_before : {A B : Type 0} {T : A → Type 0} {F : A → List ℕ} {S : A → B → List (List ℕ) → Type 0} {y : B} {fields : List (List ℕ)} (h : Then (One T F) S y fields) → fields ≡ F h.part ∷ h.behind
+one_before h = h.all ∙ ap (λ before. before ++ h.behind) h.first.field
+
 -- the bytes of fields, and then of others
 pub joined-append : (front rest : List (List ℕ)) → joined (front ++ rest) ≡ joined front ++ joined rest
 joined-append front rest = flat_map-append (λ field. field) front rest
@@ -373,3 +377,63 @@ Reader-is S to from p = record {
   first = p.first;
   ahead = λ q x front rest u h begins. p.ahead q x front rest u (from x (front ++ rest) h) begins;
 }
+
+-- a value that has a spelling, in the fields of its spelling
+pub record Spelled {A : Type 0} (Fits : A → Type 0) (F : A → List (List ℕ)) (x : A) (fields : List (List ℕ)) : Type 0 where
+  pub fits : Fits x
+  pub spelled : fields ≡ F x
+
+-- so many such values, one after the other
+pub record Many {A : Type 0} (Fits : A → Type 0) (F : A → List (List ℕ)) (n : ℕ) (xs : List A) (fields : List (List ℕ)) : Type 0 where
+  pub len : length xs ≡ n
+  pub each : AllByRecursion Fits xs
+  pub spelled : fields ≡ flat_map F xs
+
+module _ {A : Type 0} (Fits : A → Type 0) (F : A → List (List ℕ)) where
+  -- no value
+  pub Reader-none : Reader Anything (λ r. Ok ([], r)) (Many Fits F 0)
+  Reader-none =
+      Reader-is (Many Fits F 0)
+          (λ xs fields h. rw (h.same, h.none) (record { len = refl; each = tt; spelled = refl }))
+          (λ xs fields h.
+              let none : xs ≡ [] = nil_from_length xs h.len in
+              record { same = none; none = h.spelled ∙ ap (flat_map F) none })
+          (Reader-done [])
+
+  abbrev More : ℕ → List A → List (List ℕ) → Type 0
+  More n = Then (Spelled Fits F) (λ first. Then (Many Fits F n) (λ others. Done (first ∷ others)))
+
+  many_from_more : (n : ℕ) (xs : List A) (fields : List (List ℕ)) → More n xs fields → Many Fits F (suc n) xs fields
+  many_from_more n xs fields h =
+      let first = h.part in
+      let others = h.others.part in
+      let behind : h.behind ≡ flat_map F others = h.others.all ∙ ap (λ before. before ++ h.others.behind) h.others.first.spelled ∙ ap (λ rest. flat_map F others ++ rest) h.others.others.none ∙ append-nil (flat_map F others) in
+      let spelled : fields ≡ F first ++ flat_map F others = h.all ∙ ap (λ before. before ++ h.behind) h.first.spelled ∙ ap (λ rest. F first ++ rest) behind in
+      rw (h.others.others.same) (record { len = ap suc h.others.first.len; each = (h.first.fits, h.others.first.each); spelled = spelled })
+
+  more_from_many : (n : ℕ) (xs : List A) (fields : List (List ℕ)) → Many Fits F (suc n) xs fields → More n xs fields
+  more_from_many n [] fields h = absurd (omega (arith, h.len))
+  more_from_many n (x ∷ xs) fields h = record {
+    part = x;
+    before = F x;
+    behind = flat_map F xs;
+    first = record { fits = h.each.0; spelled = refl };
+    others = record {
+      part = xs;
+      before = flat_map F xs;
+      behind = [];
+      first = record { len = (let len : suc (length xs) ≡ suc n = h.len in cc); each = h.each.1; spelled = refl };
+      others = record { same = refl; none = refl };
+      all = sym (append-nil (flat_map F xs));
+    };
+    all = h.spelled;
+  }
+
+  -- a value, and then others
+  pub Reader-more : {P : Rest → Read A} {Q : Rest → Read (List A)} {n : ℕ} → Reader Anything P (Spelled Fits F) → Reader Anything Q (Many Fits F n)
+      → Reader Anything (λ r. P r >>= λ first. Q first.1 >>= λ others. Ok (first.0 ∷ others.0, others.1)) (Many Fits F (suc n))
+  Reader-more {P} {Q} {n} p q =
+      Reader-is (Many Fits F (suc n)) (many_from_more n) (more_from_many n)
+          (Reader-then Anything (λ first r. Q r >>= λ others. Ok (first ∷ others.0, others.1)) (λ first. Then (Many Fits F n) (λ others. Done (first ∷ others))) p
+              (λ first. Reader-then Anything (λ others r. Ok (first ∷ others, r)) (λ others. Done (first ∷ others)) q
+                  (λ others. Reader-done (first ∷ others))))

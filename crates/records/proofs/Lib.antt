@@ -1,4 +1,5 @@
 pub mod Fields
+pub mod Formats
 pub mod Loops
 pub mod Readers
 pub mod Signatures

@@ -2,7 +2,7 @@
 use Rattle.std.proofs.Common.{◌≡◌, ℕ, zero, suc, ◌+◌, ◌<◌, ◌≤◌, Bool, true, false, List, [], ◌∷◌, ◌++◌, length, Ok, refl, sym, ap, subst, ◌∙◌, inl, inr, ◌⊎◌, arith}
 use Rattle.std.specs.Prelude.{◌==◌, ◌||◌, if◌then◌else◌}
 use Rattle.std.specs.List.{AllByRecursion, flat_map, list_all}
-use Rattle.std.proofs.lemmas.Bool.{eqb-true, leb-true, le-leb, and_parts, and_from}
+use Rattle.std.proofs.lemmas.Bool.{eqb-true, leb-true, le-leb, or_cases}
 use Rattle.std.proofs.lemmas.List.{append-nil}
 use Rattle.kinds.specs.Alphabet.{within}
 use Rattle.patterns.specs.declared.reference.Reference.{Reference}
@@ -18,11 +18,11 @@ use Rattle.records.proofs.Readers.{IsBytes, Field-allowed, Reader, Reader-one, R
 abbrev pub IsReference : Reference → List (List ℕ) → Type 0
 IsReference = Spelled Offsets reference_fields
 
+-- one of three tests passes
 one_of_three : (a b c : Bool) → (a || (b || c)) ≡ true → (a ≡ true) ⊎ ((b ≡ true) ⊎ (c ≡ true))
-one_of_three true b c e = inl refl
-one_of_three false true c e = inr (inl refl)
-one_of_three false false c e = inr (inr e)
+one_of_three a b c e = elim (or_cases a (b || c) e) [ inl first ↦ inl first | inr others ↦ inr (or_cases b c others) ]
 
+-- a letter and two offsets, each in its field
 abbrev fields_of : ℕ → ℕ → ℕ → List (List ℕ)
 fields_of c least most = byte c ∷ word least ∷ word most ∷ []
 

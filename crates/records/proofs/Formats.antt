@@ -1,5 +1,5 @@
 -- Formats are read from their fields.
-use Rattle.std.proofs.Common.{◌≡◌, ℕ, zero, suc, ◌+◌, ◌<◌, ◌≤◌, Bool, true, false, List, [], ◌∷◌, ◌++◌, map, length, Option, Some, None, Ok, refl, sym, ap, subst, ◌∙◌, inl, inr, ◌⊎◌, arith}
+use Rattle.std.proofs.Common.{◌≡◌, ℕ, zero, suc, ◌+◌, ◌<◌, ◌≤◌, Bool, true, false, List, [], ◌∷◌, ◌++◌, map, length, Option, Some, None, Ok, refl, sym, ap, subst, ◌∙◌, inl, inr, ◌⊎◌, append_assoc, arith}
 use Rattle.std.specs.Prelude.{nat_lt}
 use Rattle.std.specs.List.{AllByRecursion, flat_map, list_all}
 use Rattle.std.specs.Option.{option_map_or}
@@ -192,3 +192,145 @@ ids_read bound =
             all = h.spelled;
         })
         (Reader-then Anything (ids_from bound None) (ManyIds bound None) (Reader-one (Field-allowed (within 0 8) byte_field)) (ids_read_from bound None))
+
+-- ---- formats
+
+abbrev made : ℕ → List ℕ → List ℕ → List ℕ → List (List ℕ) → Format
+made id name signatures outranked labels = record { id = id; name = name; signatures = signatures; outranked = outranked; labels = labels }
+
+-- what is read behind the id, the name and the two lists of ids
+abbrev labels_behind : ℕ → List ℕ → List ℕ → List ℕ → Rest → Read Format
+labels_behind id name signatures outranked r = do
+  labels ← labels_at r
+  Ok (made id name signatures outranked labels.0, labels.1)
+
+abbrev outranked_behind : ℕ → List ℕ → List ℕ → Rest → Read Format
+outranked_behind id name signatures r = do
+  outranked ← ids_at id r
+  labels_behind id name signatures outranked.0 outranked.1
+
+abbrev signatures_behind : ℕ → List ℕ → Rest → Read Format
+signatures_behind id name r = do
+  signatures ← ids_at 65536 r
+  outranked_behind id name signatures.0 signatures.1
+
+abbrev name_behind : ℕ → Rest → Read Format
+name_behind id r = do
+  name ← text_at (within 0 40) printable r
+  signatures_behind id name.0 name.1
+
+abbrev LabelsParts : ℕ → List ℕ → List ℕ → List ℕ → Format → List (List ℕ) → Type 0
+LabelsParts id name signatures outranked = Then (Spelled AreLabels label_fields) (λ labels. Done (made id name signatures outranked labels))
+
+abbrev OutrankedParts : ℕ → List ℕ → List ℕ → Format → List (List ℕ) → Type 0
+OutrankedParts id name signatures = Then (Spelled (IdsFit id) id_fields) (LabelsParts id name signatures)
+
+abbrev SignaturesParts : ℕ → List ℕ → Format → List (List ℕ) → Type 0
+SignaturesParts id name = Then (Spelled (IdsFit 65536) id_fields) (OutrankedParts id name)
+
+abbrev NameParts : ℕ → Format → List (List ℕ) → Type 0
+NameParts id = Then (IsText (within 0 40) printable) (SignaturesParts id)
+
+abbrev FormatParts : Format → List (List ℕ) → Type 0
+FormatParts = Then AnyWord NameParts
+
+-- the fields of a part, and what stands behind it
+front_is : {A B : Type 0} {R : A → List (List ℕ) → Type 0} {S : A → B → List (List ℕ) → Type 0} {y : B} {fields : List (List ℕ)} (h : Then R S y fields) (front behind : List (List ℕ)) → h.before ≡ front → h.behind ≡ behind → fields ≡ front ++ behind
+front_is h front behind e d = h.all ∙ ap (λ before. before ++ h.behind) e ∙ ap (λ rest. front ++ rest) d
+
+-- the fields of a format, the last lists first
+regrouped : (f : Format) → format_fields f ≡ word f.id ∷ (text_fields f.name ++ (id_fields f.signatures ++ (id_fields f.outranked ++ label_fields f.labels)))
+regrouped f =
+    let name = text_fields f.name in
+    let signatures = id_fields f.signatures in
+    let outranked = id_fields f.outranked in
+    ap (λ rest. word f.id ∷ rest) (append_assoc (name ++ signatures) outranked (label_fields f.labels) ∙ append_assoc name signatures (outranked ++ label_fields f.labels))
+
+format_from_parts : (f : Format) (fields : List (List ℕ)) → FormatParts f fields → Spelled IsFormat format_fields f fields
+format_from_parts f fields h =
+    let id = h.part in
+    let named = h.others in
+    let named_for = named.others in
+    let outranks = named_for.others in
+    let labelled = outranks.others in
+    let labels = labelled.part in
+    let spelled_labels : outranks.behind ≡ label_fields labels = front_is labelled (label_fields labels) [] labelled.first.spelled labelled.others.none ∙ append-nil (label_fields labels) in
+    let spelled_outranked : named_for.behind ≡ id_fields outranks.part ++ label_fields labels = front_is outranks (id_fields outranks.part) (label_fields labels) outranks.first.spelled spelled_labels in
+    let spelled_signatures : named.behind ≡ id_fields named_for.part ++ (id_fields outranks.part ++ label_fields labels) = front_is named_for (id_fields named_for.part) (id_fields outranks.part ++ label_fields labels) named_for.first.spelled spelled_outranked in
+    let spelled_name : h.behind ≡ text_fields named.part ++ (id_fields named_for.part ++ (id_fields outranks.part ++ label_fields labels)) = front_is named (text_fields named.part) (id_fields named_for.part ++ (id_fields outranks.part ++ label_fields labels)) named.first.spelled spelled_signatures in
+    let spelled : fields ≡ format_fields (made id named.part named_for.part outranks.part labels) = one_before h ∙ ap (λ rest. word id ∷ rest) spelled_name ∙ sym (regrouped (made id named.part named_for.part outranks.part labels)) in
+    rw (labelled.others.same) (record {
+      fits = record {
+        id = h.first.holds;
+        few = (within_is 0 40 (length named.part) named.first.len).1;
+        printable = named.first.characters;
+        signatures = named_for.first.fits.are;
+        outranked = outranks.first.fits.are;
+        few_labels = labelled.first.fits.few;
+        labels = labelled.first.fits.each;
+      };
+      spelled = spelled;
+    })
+
+-- ids below a bound that two bytes hold
+ids_are_words : (bound : ℕ) → bound < 65536 → (ids : List ℕ) → AllByRecursion (λ id. id < bound) ids → AllByRecursion (λ id. id < 65536) ids
+ids_are_words bound le [] h = tt
+ids_are_words bound le (id ∷ ids) h = (omega (arith, h.0), ids_are_words bound le ids h.1)
+
+parts_from_format : (f : Format) (fields : List (List ℕ)) → Spelled IsFormat format_fields f fields → FormatParts f fields
+parts_from_format f fields h =
+    let labels = label_fields f.labels in
+    let outranked = id_fields f.outranked in
+    let signatures = id_fields f.signatures in
+    record {
+      part = f.id;
+      before = word f.id ∷ [];
+      behind = text_fields f.name ++ (signatures ++ (outranked ++ labels));
+      first = record { holds = h.fits.id; field = refl };
+      others = record {
+        part = f.name;
+        before = text_fields f.name;
+        behind = signatures ++ (outranked ++ labels);
+        first = record { len = is_within 0 40 (length f.name) (omega arith) h.fits.few; characters = h.fits.printable; fits = bytes_by_test printable printable_below f.name h.fits.printable; spelled = refl };
+        others = record {
+          part = f.signatures;
+          before = signatures;
+          behind = outranked ++ labels;
+          first = record { fits = record { are = h.fits.signatures; words = h.fits.signatures.each }; spelled = refl };
+          others = record {
+            part = f.outranked;
+            before = outranked;
+            behind = labels;
+            first = record { fits = record { are = h.fits.outranked; words = ids_are_words f.id h.fits.id f.outranked h.fits.outranked.each }; spelled = refl };
+            others = record {
+              part = f.labels;
+              before = labels;
+              behind = [];
+              first = record { fits = record { few = h.fits.few_labels; each = h.fits.labels }; spelled = refl };
+              others = record { same = refl; none = refl };
+              all = sym (append-nil labels);
+            };
+            all = refl;
+          };
+          all = refl;
+        };
+        all = refl;
+      };
+      all = h.spelled ∙ regrouped f;
+    }
+
+pub format_reads : Reader Anything format_at (Spelled IsFormat format_fields)
+unfolding format_at
+format_reads =
+    Reader-is (Spelled IsFormat format_fields) format_from_parts parts_from_format
+        (Reader-then Anything name_behind NameParts
+            (Reader-one word_field)
+            (λ id. Reader-then Anything (signatures_behind id) (SignaturesParts id)
+                (text_reads (within 0 40) printable)
+                (λ name. Reader-then Anything (outranked_behind id name) (OutrankedParts id name)
+                    (ids_read 65536)
+                    (λ signatures. Reader-then Anything (labels_behind id name signatures) (LabelsParts id name signatures)
+                        (ids_read id)
+                        (λ outranked. Reader-then Anything (λ labels r. Ok (made id name signatures outranked labels, r)) (λ labels. Done (made id name signatures outranked labels))
+                            labels_read
+                            (λ labels. Reader-done (made id name signatures outranked labels)))))))

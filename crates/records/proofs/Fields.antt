@@ -9,8 +9,9 @@ use Rattle.std.proofs.lemmas.List.{take_at, drop_at, take-append-drop, length-ta
 use Rattle.std.proofs.lemmas.List.Elements.{All-from_recursion}
 use Rattle.std.proofs.lemmas.Nat.{le_bytes_2, from_le_bytes-to_le_bytes_2}
 use Rattle.records.specs.Entries.{word, byte, text_fields, joined}
+use Rattle.records.specs.Laws.{IsBytes}
 use Rattle.records.specs.Reading.{Rest, Read, ◌>>=◌, allowed, bytes_at, byte_at, word_at, text_at}
-use Rattle.records.proofs.Readers.{IsBytes, IsBytes-front, Takes, Field, Field-allowed, Field-fits, Reader, Reader-one, Reader-then, Reader-is, Anything, One, Then, one_before, bind_ok, bind_err, ok_is}
+use Rattle.records.proofs.Readers.{IsBytes-front, Takes, Field, Field-allowed, Field-fits, Reader, Reader-one, Reader-then, Reader-is, Anything, One, Then, one_before, bind_ok, bind_err, ok_is}
 
 -- a value by its place in a list of bytes
 get_or_below : (bytes : List ℕ) → IsBytes bytes → (i : ℕ) → get_or bytes i 0 < 256

@@ -7,9 +7,10 @@ use Rattle.std.proofs.lemmas.Bool.{ltb-true, lt-ltb, and_parts, and_from, or_cas
 use Rattle.std.proofs.lemmas.List.{append-nil, nil_from_length}
 use Rattle.kinds.specs.Alphabet.{within}
 use Rattle.records.specs.Entries.{Format, word, byte, text_fields, id_fields, format_fields, printable, label_character, Rising, AreIds, IsLabel, IsFormat}
+use Rattle.records.specs.Laws.{IsBytes}
 use Rattle.records.specs.Reading.{Rest, Read, ◌>>=◌, allowed, byte_at, word_at, text_at, id_allowed, ids_from, ids_at, labels_from, labels_at, format_at}
 use Rattle.records.proofs.Fields.{byte_field, word_field, text_reads, IsText, Byte, Word, AnyWord, within_is, is_within}
-use Rattle.records.proofs.Readers.{IsBytes, Field-allowed, Reader, Reader-one, Reader-then, Reader-done, Reader-is, Anything, One, Then, Done, one_before, Spelled, Many, Reader-none, Reader-more}
+use Rattle.records.proofs.Readers.{Field-allowed, Reader, Reader-one, Reader-then, Reader-done, Reader-is, Anything, One, Then, Done, one_before, Spelled, Many, Reader-none, Reader-more}
 
 -- ---- labels
 

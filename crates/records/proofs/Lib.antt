@@ -2,4 +2,5 @@ pub mod Fields
 pub mod Formats
 pub mod Loops
 pub mod Readers
+pub mod Records
 pub mod Signatures

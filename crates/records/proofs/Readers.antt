@@ -6,11 +6,8 @@ use Rattle.std.proofs.lemmas.Bool.{eqb-true}
 use Rattle.std.proofs.lemmas.List.{append-nil, nil_from_length}
 use Rattle.std.proofs.lemmas.List.Concat.{flat_map-append}
 use Rattle.records.specs.Entries.{joined}
+use Rattle.records.specs.Laws.{IsBytes}
 use Rattle.records.specs.Reading.{Rest, Read, ◌>>=◌, allowed}
-
--- each byte is below 256
-abbrev pub IsBytes : List ℕ → Type 0
-IsBytes bytes = AllByRecursion (λ b. b < 256) bytes
 
 -- what stands behind some bytes
 IsBytes-behind : (front bytes : List ℕ) → IsBytes (front ++ bytes) → IsBytes bytes

@@ -8,9 +8,10 @@ use Rattle.kinds.specs.Alphabet.{within}
 use Rattle.patterns.specs.declared.reference.Reference.{Reference}
 use Rattle.patterns.specs.declared.reference.Reference.TheVariants.{Front, Back, Anywhere}
 use Rattle.records.specs.Entries.{Sequence, Signature, word, byte, text_fields, reference_fields, sequence_fields, signature_fields, Offsets, IsSequence, IsSignature}
+use Rattle.records.specs.Laws.{IsBytes}
 use Rattle.records.specs.Reading.{Rest, Read, ◌>>=◌, allowed, byte_at, word_at, text_at, letter, reference_of, least_allowed, most_allowed, reference_at, sequence_at, sequences_at, signature_at}
 use Rattle.records.proofs.Fields.{byte_field, word_field, text_reads, IsText, Byte, Word, AnyWord, within_is, is_within}
-use Rattle.records.proofs.Readers.{IsBytes, Field-allowed, Reader, Reader-one, Reader-then, Reader-done, Reader-is, Anything, One, Then, Done, one_before, Spelled, Many, Reader-none, Reader-more}
+use Rattle.records.proofs.Readers.{Field-allowed, Reader, Reader-one, Reader-then, Reader-done, Reader-is, Anything, One, Then, Done, one_before, Spelled, Many, Reader-none, Reader-more}
 
 -- ---- where a sequence is looked for
 

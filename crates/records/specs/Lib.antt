@@ -1,3 +1,4 @@
 pub mod Entries
+pub mod Laws
 pub mod Reading
 pub mod Taken

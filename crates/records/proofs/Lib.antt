@@ -1,5 +1,6 @@
 pub mod Fields
 pub mod Formats
+pub mod Lengths
 pub mod Loops
 pub mod Readers
 pub mod Records

@@ -2,15 +2,16 @@
 use Rattle.std.proofs.Common.{◌≡◌, ℕ, zero, suc, ◌+◌, ◌-◌, ◌*◌, ◌<◌, ◌≤◌, Bool, true, false, cond, List, [], ◌∷◌, ◌++◌, length, take, drop, Result, Ok, Err, refl, sym, ap, subst, ◌∙◌, inl, inr, ◌⊎◌, append_assoc, arith, length-append}
 use Rattle.std.specs.Prelude.{◌==◌, ◌||◌, if◌then◌else◌}
 use Rattle.std.specs.List.{AllByRecursion, flat_map}
-use Rattle.std.proofs.lemmas.Bool.{eqb-true, eq-eqb, ne_eqb, or_left, or_right}
-use Rattle.std.proofs.lemmas.List.{append-nil, take-append-drop}
+use Rattle.std.proofs.lemmas.Bool.{eqb-true, eq-eqb, ne_eqb, or_left, or_right, cases_lt}
+use Rattle.std.proofs.lemmas.List.{append-nil, take-append-drop, take_all, length-take, length-drop}
 use Rattle.kinds.specs.Alphabet.{Alphabet, Lawful}
 use Rattle.records.specs.Entries.{Signature, Format, Entry, signature, format, word, joined, signature_fields, format_fields, body_fields, body_of, kind_of, record_fields, record_of, IsSignature, IsFormat, IsEntry}
-use Rattle.records.specs.Laws.{IsBytes}
+use Rattle.records.specs.Laws.{IsBytes, NotBefore, ReadIsSpelled, SpelledIsRead, SpelledApart, NothingBefore, FieldAtFault, FirstFault}
 use Rattle.records.specs.Reading.{Rest, Read, ◌>>=◌, allowed, word_at, signature_at, format_at, ended, signature_of, format_of, kind_at, entry_of, entry_at}
 use Rattle.records.proofs.Fields.{word_field, Word}
 use Rattle.records.proofs.Formats.{format_reads}
-use Rattle.records.proofs.Readers.{Takes, Reaches, Field-allowed, Reader, Reader-one, Reader-then, Reader-ended, Reader-is, Anything, Nothing, One, Then, Done, one_before, Spelled, end_at, bind_ok, ok_is}
+use Rattle.records.proofs.Lengths.{body_fits}
+use Rattle.records.proofs.Readers.{joined-append, Takes, Reaches, Field-allowed, Reader, Reader-one, Reader-then, Reader-ended, Reader-is, Anything, Nothing, One, Then, Done, one_before, Spelled, end_at, bind_ok, ok_is}
 use Rattle.records.proofs.Signatures.{signature_reads}
 
 -- ---- a whole record as a reader
@@ -184,3 +185,82 @@ module _ {E : Type 0} (a : Alphabet E) where
             (λ e fields h. subst (WholeParts total e) (sym h.spelled) (whole_parts total e h.fits h.len))
             (Reader-then Nothing (λ kind. body_at (kind == a.signature_record)) (λ kind. BodyParts (kind == a.signature_record))
                 (header_reads total) (λ kind. body_reads (kind == a.signature_record)))
+
+    -- ---- the laws
+
+    -- the fields of an entry are those of its record
+    in_its_record : (bytes : List ℕ) (e : Entry) → IsEntry e → length (record_of a e) ≡ length bytes → InRecord (length bytes) e (record_fields a e)
+    in_its_record bytes e fits same =
+        let total : length bytes - 4 ≡ length (body_of e) = omega (arith, same) in
+        record {
+          fits = fits;
+          len = rw total (body_fits e fits);
+          spelled = ap (λ n. word n ∷ word (kind_of a e) ∷ body_fields e) (sym total);
+        }
+
+    pub read_is_spelled : ReadIsSpelled a
+    read_is_spelled bytes e fits read =
+        let whole = bind_ok (whole_at (length bytes) (start bytes)) (λ x. Ok x.0) e (sym (entry_alone bytes) ∙ read) in
+        let s = whole.0.1 in
+        let same : whole.0.0 ≡ e = ok_is whole.0.0 e whole.2 in
+        let t = (whole_reads (length bytes)).taken (start bytes) s whole.0.0 fits whole.1 in
+        let taken = subst (λ d. InRecord (length bytes) d t.0) same t.1 in
+        let fields : bytes ≡ joined t.0 = t.2.bytes ∙ ap (λ rest. joined t.0 ++ rest) t.3 ∙ append-nil (joined t.0) in
+        let spelled : bytes ≡ joined (word (length bytes - 4) ∷ word (kind_of a e) ∷ body_fields e) = fields ∙ ap joined taken.spelled in
+        let total : length bytes - 4 ≡ length (body_of e) = omega (arith, ap (λ (bs : List ℕ). length bs) spelled) in
+        (taken.fits, spelled ∙ ap (λ n. joined (word n ∷ word (kind_of a e) ∷ body_fields e)) total)
+
+    pub spelled_is_read : SpelledIsRead a
+    spelled_is_read e fits =
+        let bytes = record_of a e in
+        let behind : Rest = record { place = length bytes; bytes = [] } in
+        let read : whole_at (length bytes) (start bytes) ≡ Ok (e, behind) = (whole_reads (length bytes)).again (start bytes) behind e (record_fields a e) (in_its_record bytes e fits refl) (record { bytes = sym (append-nil bytes); place = omega arith }) refl in
+        entry_alone bytes ∙ ap alone read
+
+    pub spelled_apart : SpelledApart a
+    spelled_apart d e d_fits e_fits same = ok_is d e (sym (spelled_is_read d d_fits) ∙ ap (entry_at a) same ∙ spelled_is_read e e_fits)
+
+    -- what is read alone is refused no earlier
+    not_before : {A : Type 0} (n : ℕ) (read : Read A) → Reaches n read → NotBefore n (alone read)
+    not_before n (Ok x) h = tt
+    not_before n (Err m) h = h
+
+    alone_err : {A : Type 0} (read : Read A) (n : ℕ) → alone read ≡ Err n → read ≡ Err n
+    alone_err (Ok x) n e = absurd cc
+    alone_err {A} (Err m) n e = let same : m ≡ n = cc in ap (λ (k : ℕ). Err k) same
+
+    -- a fault of a record is one of all that is read of it
+    whole_err : (bytes : List ℕ) (n : ℕ) → entry_at a bytes ≡ Err n → whole_at (length bytes) (start bytes) ≡ Err n
+    whole_err bytes n refused = alone_err (whole_at (length bytes) (start bytes)) n (sym (entry_alone bytes) ∙ refused)
+
+    nothing_before : (bytes : List ℕ) (n : ℕ) → IsBytes bytes → entry_at a bytes ≡ Err n → NothingBefore a bytes n
+    nothing_before bytes n fits refused others same_length begins =
+        elim (cases_lt (length bytes) n) [
+          | inl beyond ↦
+              let same : others ≡ bytes = sym (take_all n others (omega (arith, same_length))) ∙ begins ∙ take_all n bytes (omega arith) in
+              subst (λ (read : Result Entry ℕ). NotBefore n read) (sym (ap (entry_at a) same ∙ refused)) (omega arith)
+          | inr within ↦
+              let total = length bytes in
+              let place : n ≡ 0 + length (take n bytes) = omega (arith, length-take n bytes) in
+              let behind : length (drop n bytes) ≡ length (drop n others) = omega (arith, length-drop n bytes, length-drop n others, same_length) in
+              let other : others ≡ take n bytes ++ drop n others = sym (take-append-drop n others) ∙ ap (λ front. front ++ drop n others) begins in
+              let reached = (whole_reads total).first (start bytes) (start others) (take n bytes) (drop n bytes) (drop n others) n fits refl (sym (take-append-drop n bytes)) other behind place (whole_err bytes n refused) in
+              subst (λ (read : Result Entry ℕ). NotBefore n read) (sym (entry_alone others ∙ ap (λ len. alone (whole_at len (start others))) same_length)) (not_before n (whole_at total (start others)) reached)
+        ]
+
+    field_at_fault : (bytes : List ℕ) (n : ℕ) → entry_at a bytes ≡ Err n → FieldAtFault a bytes n
+    field_at_fault bytes n refused e front field rest fits same_length fields begins some stands =
+        let size = length field in
+        let total = length bytes in
+        let upto = front ++ field ∷ [] in
+        let u = drop size (drop n bytes) in
+        let regrouped : front ++ field ∷ rest ≡ upto ++ rest = sym (append_assoc front (field ∷ []) rest) in
+        let inside = subst (λ fs. InRecord total e fs) (fields ∙ regrouped) (in_its_record bytes e fits same_length) in
+        let text : joined upto ≡ joined front ++ field = joined-append front (field ∷ []) ∙ ap (λ bs. joined front ++ bs) (append-nil field) in
+        let bytes_are : bytes ≡ joined upto ++ u = sym (take-append-drop n bytes) ∙ ap (λ bs. take n bytes ++ bs) (sym (take-append-drop size (drop n bytes))) ∙ ap (λ bs. take n bytes ++ (bs ++ u)) stands ∙ sym (append_assoc (take n bytes) field u) ∙ ap (λ bs. (bs ++ field) ++ u) (sym begins) ∙ ap (λ bs. bs ++ u) (sym text) in
+        let reached = (whole_reads total).ahead (start bytes) e upto rest u inside bytes_are in
+        let late : length (joined upto) ≤ n = subst (λ (read : Read Entry). Reaches (length (joined upto)) read) (whole_err bytes n refused) (subst (λ m. Reaches m (whole_at total (start bytes))) (omega arith) reached) in
+        absurd (omega (arith, late, ap (λ (bs : List ℕ). length bs) text, length-append (joined front) field, ap (λ (bs : List ℕ). length bs) begins, length-take n bytes, ap (λ (bs : List ℕ). length bs) stands, length-take size (drop n bytes), length-drop n bytes))
+
+    pub first_fault : FirstFault a
+    first_fault bytes n fits refused = (nothing_before bytes n fits refused, field_at_fault bytes n refused)

@@ -126,26 +126,26 @@ pub text_reads : (lengths characters : ℕ → Bool) → Reader Anything (text_a
 unfolding text_at
 text_reads lengths characters =
     Reader-is (IsText lengths characters)
-        (λ bytes fields h.
-            let len : length bytes ≡ h.part = h.others.holds.0.0 in
-            record {
-              len = ap lengths len ∙ h.first.holds.1;
-              characters = h.others.holds.1;
-              fits = h.others.holds.0.1;
-              spelled = one_before h ∙ ap (λ behind. byte h.part ∷ behind) h.others.field ∙ ap (λ n. byte n ∷ bytes ∷ []) (sym len);
-            })
-        (λ bytes fields h.
-            record {
-              part = length bytes;
-              before = byte (length bytes) ∷ [];
-              behind = bytes ∷ [];
-              first = record { holds = (tt, h.len); field = refl };
-              others = record { holds = ((refl, h.fits), h.characters); field = refl };
-              all = h.spelled;
-            })
-        (Reader-then Anything (λ len r. allowed (list_all characters) r (bytes_at len r)) (λ len. One (λ bytes. ((length bytes ≡ len) × IsBytes bytes) × (list_all characters bytes ≡ true)) (λ bytes. bytes))
-            (Reader-one (Field-allowed lengths byte_field))
-            (λ len. Reader-one (Field-allowed (list_all characters) (Field-fits (bytes_field len)))))
+    (λ bytes fields h.
+    let len : length bytes ≡ h.part = h.others.holds.0.0 in
+    record {
+      len = ap lengths len ∙ h.first.holds.1;
+      characters = h.others.holds.1;
+      fits = h.others.holds.0.1;
+      spelled = one_before h ∙ ap (λ behind. byte h.part ∷ behind) h.others.field ∙ ap (λ n. byte n ∷ bytes ∷ []) (sym len);
+    })
+    (λ bytes fields h.
+    record {
+      part = length bytes;
+      before = byte (length bytes) ∷ [];
+      behind = bytes ∷ [];
+      first = record { holds = (tt, h.len); field = refl };
+      others = record { holds = ((refl, h.fits), h.characters); field = refl };
+      all = h.spelled;
+    })
+    (Reader-then Anything (λ len r. allowed (list_all characters) r (bytes_at len r)) (λ len. One (λ bytes. ((length bytes ≡ len) × IsBytes bytes) × (list_all characters bytes ≡ true)) (λ bytes. bytes))
+    (Reader-one (Field-allowed lengths byte_field))
+    (λ len. Reader-one (Field-allowed (list_all characters) (Field-fits (bytes_field len)))))
 
 -- a byte that passes a test, and a word
 abbrev pub Byte : (ℕ → Bool) → ℕ → List (List ℕ) → Type 0

@@ -34,12 +34,12 @@ label_below c e =
 pub label_reads : Reader Anything (text_at (within 1 8) label_character) (Spelled IsLabel text_fields)
 label_reads =
     Reader-is (Spelled IsLabel text_fields)
-        (λ label fields h.
-            let len = within_is 1 8 (length label) h.len in
-            record { fits = record { some = len.0; few = len.1; characters = h.characters }; spelled = h.spelled })
-        (λ label fields h.
-            record { len = is_within 1 8 (length label) h.fits.some h.fits.few; characters = h.fits.characters; fits = bytes_by_test label_character label_below label h.fits.characters; spelled = h.spelled })
-        (text_reads (within 1 8) label_character)
+    (λ label fields h.
+    let len = within_is 1 8 (length label) h.len in
+    record { fits = record { some = len.0; few = len.1; characters = h.characters }; spelled = h.spelled })
+    (λ label fields h.
+    record { len = is_within 1 8 (length label) h.fits.some h.fits.few; characters = h.fits.characters; fits = bytes_by_test label_character label_below label h.fits.characters; spelled = h.spelled })
+    (text_reads (within 1 8) label_character)
 
 labels_read_from : (n : ℕ) → Reader Anything (labels_from n) (Many IsLabel text_fields n)
 unfolding labels_from
@@ -59,21 +59,21 @@ labels_read : Reader Anything labels_at (Spelled AreLabels label_fields)
 unfolding labels_at
 labels_read =
     Reader-is (Spelled AreLabels label_fields)
-        (λ labels fields h.
-            let count = within_is 0 4 h.part h.first.holds.1 in
-            record {
-              fits = record { few = omega (arith, h.others.len, count.1); each = h.others.each };
-              spelled = one_before h ∙ ap (λ rest. byte h.part ∷ rest) h.others.spelled ∙ ap (λ n. byte n ∷ flat_map text_fields labels) (sym h.others.len);
-            })
-        (λ labels fields h. record {
-            part = length labels;
-            before = byte (length labels) ∷ [];
-            behind = flat_map text_fields labels;
-            first = record { holds = (tt, is_within 0 4 (length labels) (omega arith) h.fits.few); field = refl };
-            others = record { len = refl; each = h.fits.each; spelled = refl };
-            all = h.spelled;
-        })
-        (Reader-then Anything labels_from (Many IsLabel text_fields) (Reader-one (Field-allowed (within 0 4) byte_field)) labels_read_from)
+    (λ labels fields h.
+    let count = within_is 0 4 h.part h.first.holds.1 in
+    record {
+      fits = record { few = omega (arith, h.others.len, count.1); each = h.others.each };
+      spelled = one_before h ∙ ap (λ rest. byte h.part ∷ rest) h.others.spelled ∙ ap (λ n. byte n ∷ flat_map text_fields labels) (sym h.others.len);
+    })
+    (λ labels fields h. record {
+      part = length labels;
+      before = byte (length labels) ∷ [];
+      behind = flat_map text_fields labels;
+      first = record { holds = (tt, is_within 0 4 (length labels) (omega arith) h.fits.few); field = refl };
+      others = record { len = refl; each = h.fits.each; spelled = refl };
+      all = h.spelled;
+    })
+    (Reader-then Anything labels_from (Many IsLabel text_fields) (Reader-one (Field-allowed (within 0 4) byte_field)) labels_read_from)
 
 -- ---- ids
 
@@ -157,17 +157,17 @@ ids_read_from : (bound : ℕ) (before : Option ℕ) (n : ℕ) → Reader Anythin
 unfolding ids_from
 ids_read_from bound before zero =
     Reader-is (ManyIds bound before 0)
-        (λ ids fields h. rw (h.same, h.none) (record { len = refl; each = tt; words = tt; rising = rising_from_none before; spelled = refl }))
-        (λ ids fields h.
-            let none : ids ≡ [] = nil_from_length ids h.len in
-            record { same = none; none = h.spelled ∙ ap (map word) none })
-        (Reader-done [])
+    (λ ids fields h. rw (h.same, h.none) (record { len = refl; each = tt; words = tt; rising = rising_from_none before; spelled = refl }))
+    (λ ids fields h.
+    let none : ids ≡ [] = nil_from_length ids h.len in
+    record { same = none; none = h.spelled ∙ ap (map word) none })
+    (Reader-done [])
 ids_read_from bound before (suc n) =
     Reader-is (ManyIds bound before (suc n)) (ids_from_more bound before n) (more_from_ids bound before n)
-        (Reader-then Anything (λ id r. ids_from bound (Some id) n r >>= λ ids. Ok (id ∷ ids.0, ids.1)) (λ id. Then (ManyIds bound (Some id) n) (λ ids. Done (id ∷ ids)))
-            (Reader-one (Field-allowed (id_allowed bound before) word_field))
-            (λ id. Reader-then Anything (λ ids r. Ok (id ∷ ids, r)) (λ ids. Done (id ∷ ids)) (ids_read_from bound (Some id) n)
-                (λ ids. Reader-done (id ∷ ids))))
+    (Reader-then Anything (λ id r. ids_from bound (Some id) n r >>= λ ids. Ok (id ∷ ids.0, ids.1)) (λ id. Then (ManyIds bound (Some id) n) (λ ids. Done (id ∷ ids)))
+    (Reader-one (Field-allowed (id_allowed bound before) word_field))
+    (λ id. Reader-then Anything (λ ids r. Ok (id ∷ ids, r)) (λ ids. Done (id ∷ ids)) (ids_read_from bound (Some id) n)
+    (λ ids. Reader-done (id ∷ ids))))
 
 -- ids of a list, each in two bytes
 record IdsFit (bound : ℕ) (ids : List ℕ) : Type 0 where
@@ -178,21 +178,21 @@ ids_read : (bound : ℕ) → Reader Anything (ids_at bound) (Spelled (IdsFit bou
 unfolding ids_at
 ids_read bound =
     Reader-is (Spelled (IdsFit bound) id_fields)
-        (λ ids fields h.
-            let count = within_is 0 8 h.part h.first.holds.1 in
-            record {
-              fits = record { are = record { few = omega (arith, h.others.len, count.1); each = h.others.each; rising = h.others.rising }; words = h.others.words };
-              spelled = one_before h ∙ ap (λ rest. byte h.part ∷ rest) h.others.spelled ∙ ap (λ n. byte n ∷ map word ids) (sym h.others.len);
-            })
-        (λ ids fields h. record {
-            part = length ids;
-            before = byte (length ids) ∷ [];
-            behind = map word ids;
-            first = record { holds = (tt, is_within 0 8 (length ids) (omega arith) h.fits.are.few); field = refl };
-            others = record { len = refl; each = h.fits.are.each; words = h.fits.words; rising = h.fits.are.rising; spelled = refl };
-            all = h.spelled;
-        })
-        (Reader-then Anything (ids_from bound None) (ManyIds bound None) (Reader-one (Field-allowed (within 0 8) byte_field)) (ids_read_from bound None))
+    (λ ids fields h.
+    let count = within_is 0 8 h.part h.first.holds.1 in
+    record {
+      fits = record { are = record { few = omega (arith, h.others.len, count.1); each = h.others.each; rising = h.others.rising }; words = h.others.words };
+      spelled = one_before h ∙ ap (λ rest. byte h.part ∷ rest) h.others.spelled ∙ ap (λ n. byte n ∷ map word ids) (sym h.others.len);
+    })
+    (λ ids fields h. record {
+      part = length ids;
+      before = byte (length ids) ∷ [];
+      behind = map word ids;
+      first = record { holds = (tt, is_within 0 8 (length ids) (omega arith) h.fits.are.few); field = refl };
+      others = record { len = refl; each = h.fits.are.each; words = h.fits.words; rising = h.fits.are.rising; spelled = refl };
+      all = h.spelled;
+    })
+    (Reader-then Anything (ids_from bound None) (ManyIds bound None) (Reader-one (Field-allowed (within 0 8) byte_field)) (ids_read_from bound None))
 
 -- ---- formats
 
@@ -324,14 +324,14 @@ pub format_reads : Reader Anything format_at (Spelled IsFormat format_fields)
 unfolding format_at
 format_reads =
     Reader-is (Spelled IsFormat format_fields) format_from_parts parts_from_format
-        (Reader-then Anything name_behind NameParts
-            (Reader-one word_field)
-            (λ id. Reader-then Anything (signatures_behind id) (SignaturesParts id)
-                (text_reads (within 0 40) printable)
-                (λ name. Reader-then Anything (outranked_behind id name) (OutrankedParts id name)
-                    (ids_read 65536)
-                    (λ signatures. Reader-then Anything (labels_behind id name signatures) (LabelsParts id name signatures)
-                        (ids_read id)
-                        (λ outranked. Reader-then Anything (λ labels r. Ok (made id name signatures outranked labels, r)) (λ labels. Done (made id name signatures outranked labels))
-                            labels_read
-                            (λ labels. Reader-done (made id name signatures outranked labels)))))))
+    (Reader-then Anything name_behind NameParts
+    (Reader-one word_field)
+    (λ id. Reader-then Anything (signatures_behind id) (SignaturesParts id)
+    (text_reads (within 0 40) printable)
+    (λ name. Reader-then Anything (outranked_behind id name) (OutrankedParts id name)
+    (ids_read 65536)
+    (λ signatures. Reader-then Anything (labels_behind id name signatures) (LabelsParts id name signatures)
+    (ids_read id)
+    (λ outranked. Reader-then Anything (λ labels r. Ok (made id name signatures outranked labels, r)) (λ labels. Done (made id name signatures outranked labels))
+    labels_read
+    (λ labels. Reader-done (made id name signatures outranked labels)))))))

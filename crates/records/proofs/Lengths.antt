@@ -48,5 +48,17 @@ body_fits (format f) h =
     let name = text_fields f.name in
     let signatures = id_fields f.signatures in
     let outranked = id_fields f.outranked in
-    omega (arith, labels, h.few_labels, h.few, h.signatures.few, h.outranked.few, length_text f.name, length_id_fields f.signatures, length_id_fields f.outranked,
-        length_both (name ++ signatures ++ outranked) ((length f.labels ∷ []) ∷ flat_map text_fields f.labels), length_both (name ++ signatures) outranked, length_both name signatures)
+    omega (
+      arith,
+      labels,
+      h.few_labels,
+      h.few,
+      h.signatures.few,
+      h.outranked.few,
+      length_text f.name,
+      length_id_fields f.signatures,
+      length_id_fields f.outranked,
+      length_both (name ++ signatures ++ outranked) ((length f.labels ∷ []) ∷ flat_map text_fields f.labels),
+      length_both (name ++ signatures) outranked,
+      length_both name signatures,
+    )

@@ -235,11 +235,12 @@ Reader-then {A} {B} {P} {R} End f S p q = record {
       let mid = b.0.1 in
       let one = p.taken r mid x fits b.1 in
       let mid_fits = IsBytes-behind (joined one.0) mid.bytes (subst IsBytes one.2.bytes fits) in
-      let two = (q x).taken mid s y mid_fits b.2 in
-      (one.0 ++ two.0,
-       record { part = x; before = one.0; behind = two.0; first = one.1; others = two.1; all = refl },
-       rw joined-append (Takes-then r mid s (joined one.0) (joined two.0) one.2 two.2),
-       two.3);
+      let two = (q x).taken mid s y mid_fits b.2 in (
+        one.0 ++ two.0,
+        record { part = x; before = one.0; behind = two.0; first = one.1; others = two.1; all = refl },
+        rw joined-append (Takes-then r mid s (joined one.0) (joined two.0) one.2 two.2),
+        two.3,
+      );
   again = λ r s y fields h t end.
       let x = h.part in
       let bytes : joined fields ≡ joined h.before ++ joined h.behind = ap joined h.all ∙ joined-append h.before h.behind in
@@ -341,16 +342,19 @@ end_ok {A} y x r s empty same rest =
 pub Reader-ended : {A : Type 0} (y : A) → Reader Nothing (end_at y) (Done y)
 Reader-ended {A} y =
     let onward = λ (r : Rest). reaches_by_cases (end_at y r) r.place
-        (λ x e. let rest : (y, r) ≡ x = (guard_ok (length r.bytes == 0) (y, r) x r.place e).1 in omega (arith, ap (λ (z : A × Rest). z.1.place) rest))
-        (λ m e. let same : r.place ≡ m = guard_err (length r.bytes == 0) (y, r) r.place m e in omega arith) in
+    (λ x e. let rest : (y, r) ≡ x = (guard_ok (length r.bytes == 0) (y, r) x r.place e).1 in omega (arith, ap (λ (z : A × Rest). z.1.place) rest))
+    (λ m e. let same : r.place ≡ m = guard_err (length r.bytes == 0) (y, r) r.place m e in omega arith) in
     record {
       onward = onward;
       taken = λ r s x fits e.
           let g = guard_ok (length r.bytes == 0) (y, r) (x, s) r.place e in
           let same : x ≡ y = ap (λ (z : A × Rest). z.0) (sym g.1) in
-          let rest : r ≡ s = ap (λ (z : A × Rest). z.1) g.1 in
-          ([], record { same = same; none = refl }, record { bytes = ap (λ (t : Rest). t.bytes) rest; place = omega (arith, ap (λ (t : Rest). t.place) rest) },
-           subst (λ (t : Rest). t.bytes ≡ []) rest (nil_from_length r.bytes (eqb-true _ _ g.0)));
+          let rest : r ≡ s = ap (λ (z : A × Rest). z.1) g.1 in (
+            [],
+            record { same = same; none = refl },
+            record { bytes = ap (λ (t : Rest). t.bytes) rest; place = omega (arith, ap (λ (t : Rest). t.place) rest) },
+            subst (λ (t : Rest). t.bytes ≡ []) rest (nil_from_length r.bytes (eqb-true _ _ g.0)),
+          );
       again = λ r s x fields h t end.
           let none : joined fields ≡ [] = ap joined h.none in
           let rest : r ≡ s = same_rest r s (omega (arith, t.place, ap (λ (bs : List ℕ). length bs) none)) (t.bytes ∙ ap (λ bs. bs ++ s.bytes) none) in
@@ -391,11 +395,11 @@ module _ {A : Type 0} (Fits : A → Type 0) (F : A → List (List ℕ)) where
   pub Reader-none : Reader Anything (λ r. Ok ([], r)) (Many Fits F 0)
   Reader-none =
       Reader-is (Many Fits F 0)
-          (λ xs fields h. rw (h.same, h.none) (record { len = refl; each = tt; spelled = refl }))
-          (λ xs fields h.
-              let none : xs ≡ [] = nil_from_length xs h.len in
-              record { same = none; none = h.spelled ∙ ap (flat_map F) none })
-          (Reader-done [])
+      (λ xs fields h. rw (h.same, h.none) (record { len = refl; each = tt; spelled = refl }))
+      (λ xs fields h.
+      let none : xs ≡ [] = nil_from_length xs h.len in
+      record { same = none; none = h.spelled ∙ ap (flat_map F) none })
+      (Reader-done [])
 
   abbrev More : ℕ → List A → List (List ℕ) → Type 0
   More n = Then (Spelled Fits F) (λ first. Then (Many Fits F n) (λ others. Done (first ∷ others)))
@@ -431,6 +435,6 @@ module _ {A : Type 0} (Fits : A → Type 0) (F : A → List (List ℕ)) where
       → Reader Anything (λ r. P r >>= λ first. Q first.1 >>= λ others. Ok (first.0 ∷ others.0, others.1)) (Many Fits F (suc n))
   Reader-more {P} {Q} {n} p q =
       Reader-is (Many Fits F (suc n)) (many_from_more n) (more_from_many n)
-          (Reader-then Anything (λ first r. Q r >>= λ others. Ok (first ∷ others.0, others.1)) (λ first. Then (Many Fits F n) (λ others. Done (first ∷ others))) p
-              (λ first. Reader-then Anything (λ others r. Ok (first ∷ others, r)) (λ others. Done (first ∷ others)) q
-                  (λ others. Reader-done (first ∷ others))))
+      (Reader-then Anything (λ first r. Q r >>= λ others. Ok (first ∷ others.0, others.1)) (λ first. Then (Many Fits F n) (λ others. Done (first ∷ others))) p
+      (λ first. Reader-then Anything (λ others r. Ok (first ∷ others, r)) (λ others. Done (first ∷ others)) q
+      (λ others. Reader-done (first ∷ others))))

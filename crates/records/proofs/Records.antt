@@ -109,8 +109,8 @@ module _ {E : Type 0} (a : Alphabet E) where
   header_reads : (total : ℕ) → Reader Anything (header_at total) (Header total)
   header_reads total =
       Reader-then Anything (λ len r. allowed wanted r (word_at r)) (λ len. Word wanted)
-          (Reader-one (Field-allowed (λ n. n == total - 4) word_field))
-          (λ len. Reader-one (Field-allowed wanted word_field))
+      (Reader-one (Field-allowed (λ n. n == total - 4) word_field))
+      (λ len. Reader-one (Field-allowed wanted word_field))
 
   -- a whole record of so many bytes
   abbrev WholeParts : ℕ → Entry → List (List ℕ) → Type 0
@@ -160,7 +160,9 @@ module _ {E : Type 0} (a : Alphabet E) where
         let kind = a.signature_record in
         let here : (kind == a.signature_record) ≡ true = eq-eqb kind kind refl in
         let body : BodyParts true (signature s) (signature_fields s) = record {
-          part = s; before = signature_fields s; behind = [];
+          part = s;
+          before = signature_fields s;
+          behind = [];
           first = record { fits = fits; spelled = refl };
           others = record { same = refl; none = refl };
           all = sym (append-nil (signature_fields s));
@@ -171,7 +173,9 @@ module _ {E : Type 0} (a : Alphabet E) where
         let here : (kind == a.format_record) ≡ true = eq-eqb kind kind refl in
         let other : (kind == a.signature_record) ≡ false = ne_eqb kind a.signature_record (λ e. lawful.records_differ (sym e)) in
         let body : BodyParts false (format f) (format_fields f) = record {
-          part = f; before = format_fields f; behind = [];
+          part = f;
+          before = format_fields f;
+          behind = [];
           first = record { fits = fits; spelled = refl };
           others = record { same = refl; none = refl };
           all = sym (append-nil (format_fields f));
@@ -182,9 +186,9 @@ module _ {E : Type 0} (a : Alphabet E) where
     pub whole_reads : (total : ℕ) → Reader Nothing (whole_at total) (InRecord total)
     whole_reads total =
         Reader-is (InRecord total) (whole_from_parts total)
-            (λ e fields h. subst (WholeParts total e) (sym h.spelled) (whole_parts total e h.fits h.len))
-            (Reader-then Nothing (λ kind. body_at (kind == a.signature_record)) (λ kind. BodyParts (kind == a.signature_record))
-                (header_reads total) (λ kind. body_reads (kind == a.signature_record)))
+        (λ e fields h. subst (WholeParts total e) (sym h.spelled) (whole_parts total e h.fits h.len))
+        (Reader-then Nothing (λ kind. body_at (kind == a.signature_record)) (λ kind. BodyParts (kind == a.signature_record))
+        (header_reads total) (λ kind. body_reads (kind == a.signature_record)))
 
     -- ---- the laws
 

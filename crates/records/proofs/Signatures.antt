@@ -34,13 +34,13 @@ reference_is c least most is_letter is_least is_most fits =
     elim (one_of_three (c == 0x42) (c == 0x45) (c == 0x56) is_letter) [
       | inl front ↦
           subst (λ d. most_allowed d least most ≡ true → IsReference (reference_of d least most) (fields_of d least most)) (sym (eqb-true c 0x42 front))
-              (λ le. record { fits = (leb-true _ _ le, fits); spelled = refl }) is_most
+          (λ le. record { fits = (leb-true _ _ le, fits); spelled = refl }) is_most
       | inr (inl back) ↦
           subst (λ d. most_allowed d least most ≡ true → IsReference (reference_of d least most) (fields_of d least most)) (sym (eqb-true c 0x45 back))
-              (λ le. record { fits = (leb-true _ _ le, fits); spelled = refl }) is_most
+          (λ le. record { fits = (leb-true _ _ le, fits); spelled = refl }) is_most
       | inr (inr anywhere) ↦
           subst (λ d. least_allowed d least ≡ true → most_allowed d least most ≡ true → IsReference (reference_of d least most) (fields_of d least most)) (sym (eqb-true c 0x56 anywhere))
-              (λ no_least no_most. rw (eqb-true least 0 no_least, eqb-true most 0 no_most) (record { fits = tt; spelled = refl })) is_least is_most
+          (λ no_least no_most. rw (eqb-true least 0 no_least, eqb-true most 0 no_most) (record { fits = tt; spelled = refl })) is_least is_most
     ]
 
 -- two offsets behind their letter
@@ -107,14 +107,14 @@ pub reference_reads : Reader Anything reference_at IsReference
 unfolding reference_at
 reference_reads =
     Reader-is IsReference reference_from_parts
-        (λ reference fields h. subst (ReferenceParts reference) (sym h.spelled) (parts_from_reference reference h.fits))
-        (Reader-then Anything least_from LeastParts
-            (Reader-one (Field-allowed letter byte_field))
-            (λ c. Reader-then Anything (most_from c) (MostParts c)
-                (Reader-one (Field-allowed (least_allowed c) word_field))
-                (λ least. Reader-then Anything (λ most r. Ok (reference_of c least most, r)) (λ most. Done (reference_of c least most))
-                    (Reader-one (Field-allowed (most_allowed c least) word_field))
-                    (λ most. Reader-done (reference_of c least most)))))
+    (λ reference fields h. subst (ReferenceParts reference) (sym h.spelled) (parts_from_reference reference h.fits))
+    (Reader-then Anything least_from LeastParts
+    (Reader-one (Field-allowed letter byte_field))
+    (λ c. Reader-then Anything (most_from c) (MostParts c)
+    (Reader-one (Field-allowed (least_allowed c) word_field))
+    (λ least. Reader-then Anything (λ most r. Ok (reference_of c least most, r)) (λ most. Done (reference_of c least most))
+    (Reader-one (Field-allowed (most_allowed c least) word_field))
+    (λ most. Reader-done (reference_of c least most)))))
 
 -- ---- sequences
 
@@ -164,11 +164,11 @@ pub sequence_reads : Reader Anything sequence_at (Spelled IsSequence sequence_fi
 unfolding sequence_at
 sequence_reads =
     Reader-is (Spelled IsSequence sequence_fields) sequence_from_parts parts_from_sequence
-        (Reader-then Anything (λ reference r. some_text r >>= λ text. Ok (record { reference = reference; text = text.0 }, text.1)) (λ reference. Then SomeText (λ text. Done (record { reference = reference; text = text })))
-            reference_reads
-            (λ reference. Reader-then Anything (λ text r. Ok (record { reference = reference; text = text }, r)) (λ text. Done (record { reference = reference; text = text }))
-                (text_reads (within 1 200) (λ c. true))
-                (λ text. Reader-done (record { reference = reference; text = text }))))
+    (Reader-then Anything (λ reference r. some_text r >>= λ text. Ok (record { reference = reference; text = text.0 }, text.1)) (λ reference. Then SomeText (λ text. Done (record { reference = reference; text = text })))
+    reference_reads
+    (λ reference. Reader-then Anything (λ text r. Ok (record { reference = reference; text = text }, r)) (λ text. Done (record { reference = reference; text = text }))
+    (text_reads (within 1 200) (λ c. true))
+    (λ text. Reader-done (record { reference = reference; text = text }))))
 
 pub sequences_read : (n : ℕ) → Reader Anything (sequences_at n) (Many IsSequence sequence_fields n)
 unfolding sequences_at
@@ -231,7 +231,7 @@ signature_from_parts s fields h =
     let counted = within_is 1 4 count h.others.others.first.holds.1 in
     let behind : last.before ++ last.behind ≡ flat_map sequence_fields sequences = ap (λ before. before ++ last.behind) last.first.spelled ∙ ap (λ rest. flat_map sequence_fields sequences ++ rest) last.others.none ∙ append-nil (flat_map sequence_fields sequences) in
     let spelled : fields ≡ word id ∷ byte specific ∷ byte count ∷ flat_map sequence_fields sequences =
-        one_before h ∙ ap (λ rest. word id ∷ rest) (one_before h.others ∙ ap (λ rest. byte specific ∷ rest) (one_before h.others.others ∙ ap (λ rest. byte count ∷ rest) (last.all ∙ behind))) in
+    one_before h ∙ ap (λ rest. word id ∷ rest) (one_before h.others ∙ ap (λ rest. byte specific ∷ rest) (one_before h.others.others ∙ ap (λ rest. byte count ∷ rest) (last.all ∙ behind))) in
     let flag : (if specific == 1 then 1 else 0) ≡ specific = flag_is specific h.others.first.holds.1 in
     rw (last.others.same) (record {
       fits = record { id = h.first.holds; some = omega (arith, last.first.len, counted.0); few = omega (arith, last.first.len, counted.1); each = last.first.each };
@@ -276,12 +276,12 @@ pub signature_reads : Reader Anything signature_at (Spelled IsSignature signatur
 unfolding signature_at
 signature_reads =
     Reader-is (Spelled IsSignature signature_fields) signature_from_parts parts_from_signature
-        (Reader-then Anything specific_from SpecificParts
-            (Reader-one word_field)
-            (λ id. Reader-then Anything (count_from id) (CountParts id)
-                (Reader-one (Field-allowed (within 0 1) byte_field))
-                (λ specific. Reader-then Anything (sequences_from id specific) (SequencesParts id specific)
-                    (Reader-one (Field-allowed (within 1 4) byte_field))
-                    (λ count. Reader-then Anything (λ sequences r. Ok (made id specific sequences, r)) (λ sequences. Done (made id specific sequences))
-                        (sequences_read count)
-                        (λ sequences. Reader-done (made id specific sequences))))))
+    (Reader-then Anything specific_from SpecificParts
+    (Reader-one word_field)
+    (λ id. Reader-then Anything (count_from id) (CountParts id)
+    (Reader-one (Field-allowed (within 0 1) byte_field))
+    (λ specific. Reader-then Anything (sequences_from id specific) (SequencesParts id specific)
+    (Reader-one (Field-allowed (within 1 4) byte_field))
+    (λ count. Reader-then Anything (λ sequences r. Ok (made id specific sequences, r)) (λ sequences. Done (made id specific sequences))
+    (sequences_read count)
+    (λ sequences. Reader-done (made id specific sequences))))))

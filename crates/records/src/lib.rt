@@ -5,6 +5,7 @@ mod format;
 mod record;
 mod rest;
 mod signature;
+pub mod theorems;
 
 pub use format::{
     Format, Label, MOST_IDS, MOST_LABEL_CHARACTERS, MOST_LABELS, MOST_NAME_CHARACTERS,

@@ -103,7 +103,7 @@ pub record Reader {A : Type 0} (End : List ℕ → Type 0) (P : Rest → Read A)
 -- Fields.
 
 -- a choice between a value and a fault
-guard_ok : {A : Type 0} (b : Bool) (x y : A) (n : ℕ) → cond b (Ok x) (Err n) ≡ Ok y → (b ≡ true) × (x ≡ y)
+pub guard_ok : {A : Type 0} (b : Bool) (x y : A) (n : ℕ) → cond b (Ok x) (Err n) ≡ Ok y → (b ≡ true) × (x ≡ y)
 guard_ok true x y n e = (refl, cc)
 guard_ok false x y n e = absurd cc
 

@@ -2,8 +2,8 @@
 use Rattle.std.specs.Prelude.{◌≡◌, ℕ, ◌<◌, ◌≤◌, List, ◌∷◌, ◌++◌, length, take, drop, Ok, Err, Result, ⊤}
 use Rattle.std.specs.List.{AllByRecursion}
 use Rattle.kinds.specs.Alphabet.{Alphabet}
-use Rattle.records.specs.Entries.{Entry, IsEntry, joined, record_fields, record_of}
-use Rattle.records.specs.Reading.{entry_at}
+use Rattle.records.specs.Entries.{Entry, signature, format, IsEntry, word, kind_of, joined, record_fields, record_of}
+use Rattle.records.specs.Reading.{signature_of, format_of, entry_at}
 
 -- each byte is below 256
 abbrev pub IsBytes : List ℕ → Type 0
@@ -13,6 +13,11 @@ IsBytes bytes = AllByRecursion (λ b. b < 256) bytes
 abbrev pub NotBefore : {A : Type 0} → ℕ → Result A ℕ → Type 0
 NotBefore place (Ok x) = ⊤
 NotBefore place (Err n) = place ≤ n
+
+-- a body, which stands behind the first four bytes of its record, is that of an entry
+abbrev pub IsBodyOf : Entry → List ℕ → Type 0
+IsBodyOf (signature s) body = signature_of (record { place = 4; bytes = body }) ≡ Ok s
+IsBodyOf (format f) body = format_of (record { place = 4; bytes = body }) ≡ Ok f
 
 module _ {E : Type 0} (a : Alphabet E) where
   -- What is read has a spelling, and the record is that spelling.
@@ -45,3 +50,12 @@ module _ {E : Type 0} (a : Alphabet E) where
   abbrev pub FirstFault : Type 0
   FirstFault =
       (bytes : List ℕ) (place : ℕ) → IsBytes bytes → entry_at a bytes ≡ Err place → NothingBefore bytes place × FieldAtFault bytes place
+
+  -- The body of a record that is read is read alone.
+  abbrev pub BodyIsRead : Type 0
+  BodyIsRead = (bytes : List ℕ) (e : Entry) → IsBytes bytes → entry_at a bytes ≡ Ok e → IsBodyOf e (drop 4 bytes)
+
+  -- A body that is read alone is read in a record of its kind.
+  abbrev pub RecordIsRead : Type 0
+  RecordIsRead =
+      (body : List ℕ) (e : Entry) → IsBytes body → IsBodyOf e body → entry_at a (word (length body) ++ (word (kind_of a e) ++ body)) ≡ Ok e

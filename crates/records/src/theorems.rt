@@ -1,7 +1,7 @@
 //! Theorems about the definitions, each the contract of a function, so that the check asks for its
 //! proof.
 ghost use Rattle.std.specs.Prelude.{◌≡◌, true};
-ghost use Rattle.records.specs.Laws.{FirstFault, ReadIsSpelled, SpelledApart, SpelledIsRead};
+ghost use Rattle.records.specs.Laws.{BodyIsRead, FirstFault, ReadIsSpelled, RecordIsRead, SpelledApart, SpelledIsRead};
 
 use kinds::Kind;
 
@@ -33,6 +33,22 @@ pub fn spelled_apart<K: Kind>() -> bool
 pub fn first_fault<K: Kind>() -> bool
     ensures answer { result ≡ true }
     ensures theorem { FirstFault K.alphabet }
+{
+    true
+}
+
+/// The body of a record that is read is read alone.
+pub fn body_is_read<K: Kind>() -> bool
+    ensures answer { result ≡ true }
+    ensures theorem { BodyIsRead K.alphabet }
+{
+    true
+}
+
+/// A body that is read alone is read in a record of its kind.
+pub fn record_is_read<K: Kind>() -> bool
+    ensures answer { result ≡ true }
+    ensures theorem { RecordIsRead K.alphabet }
 {
     true
 }

@@ -1,0 +1,5 @@
+use Rattle.records.proofs.Bodies.{body_is_read}
+use Rattle.records.proofs.theorems.body_is_read.Goals as goal
+
+pub returns-clause-theorem : goal.returns-clause-theorem
+returns-clause-theorem g c = body_is_read g.K.Kind.alphabet g.met.K.Kind.lawful

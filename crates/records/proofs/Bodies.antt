@@ -1,14 +1,14 @@
 -- Bodies are read alone as they are in their records.
-use Rattle.std.proofs.Common.{◌≡◌, ℕ, ◌+◌, List, [], ◌++◌, length, drop, Ok, Err, refl, sym, ap, subst, ◌∙◌, arith}
+use Rattle.std.proofs.Common.{◌≡◌, ℕ, ◌+◌, List, [], ◌++◌, length, drop, Ok, Err, refl, sym, ap, subst, ◌∙◌}
 use Rattle.std.specs.Prelude.{◌==◌, if◌then◌else◌}
 use Rattle.std.proofs.lemmas.Bool.{eqb-true}
 use Rattle.std.proofs.lemmas.List.{append-nil, nil_from_length}
 use Rattle.kinds.specs.Alphabet.{Alphabet, Lawful}
-use Rattle.records.specs.Entries.{Entry, signature, format, word, joined, signature_fields, format_fields, body_of, kind_of, IsSignature, IsFormat, IsEntry}
+use Rattle.records.specs.Entries.{Entry, signature, format, joined, signature_fields, format_fields, body_of, IsSignature, IsFormat, IsEntry}
 use Rattle.records.specs.Laws.{IsBytes, IsBodyOf, BodyIsRead, RecordIsRead}
 use Rattle.records.specs.Reading.{Rest, Read, ended, signature_of, format_of}
 use Rattle.records.proofs.Formats.{format_reads}
-use Rattle.records.proofs.Readers.{Reader, Anything, Spelled, Takes, bind_ok, guard_ok}
+use Rattle.records.proofs.Readers.{Reader, Anything, Spelled, bind_ok, guard_ok}
 use Rattle.records.proofs.Records.{read_is_spelled, spelled_is_read}
 use Rattle.records.proofs.Signatures.{signature_reads}
 
@@ -46,11 +46,13 @@ spelled_is_body (signature s) fits = ended_again _ IsSignature signature_fields 
 spelled_is_body (format f) fits = ended_again _ IsFormat format_fields format_reads 4 f fits
 
 module _ {E : Type 0} (a : Alphabet E) (lawful : Lawful a) where
+  -- the law that a body is read alone
   pub body_is_read : BodyIsRead a
   body_is_read bytes e fits read =
       let spelled = read_is_spelled a lawful bytes e fits read in
       subst (IsBodyOf e) (sym (ap (drop 4) spelled.1)) (spelled_is_body e spelled.0)
 
+  -- the law that a record of a body is read
   pub record_is_read : RecordIsRead a
   record_is_read body e fits read =
       let spelled = body_is_spelled body e fits read in

@@ -1,17 +1,16 @@
 -- The fields of records: bytes, words and texts.
-use Rattle.std.proofs.Common.{◌≡◌, ℕ, zero, suc, ◌+◌, ◌<◌, ◌≤◌, ◌^◌, Bool, true, false, cond, ltb, List, [], ◌∷◌, ◌++◌, length, get_or, take, drop, Result, Ok, Err, refl, sym, ap, subst, ◌∙◌, arith, length-append}
+use Rattle.std.proofs.Common.{◌≡◌, ℕ, zero, suc, ◌+◌, ◌<◌, ◌≤◌, Bool, true, false, cond, ltb, List, [], ◌∷◌, ◌++◌, length, get_or, take, drop, Ok, Err, refl, sym, ap, subst, ◌∙◌, arith, length-append}
 use Rattle.kinds.specs.Alphabet.{within}
 use Rattle.std.specs.Prelude.{nat_le}
-use Rattle.std.specs.Int.{w16, to_le_bytes, from_le_bytes}
-use Rattle.std.specs.List.{AllByRecursion, list_all}
+use Rattle.std.specs.Int.{w16, from_le_bytes}
+use Rattle.std.specs.List.{list_all}
 use Rattle.std.proofs.lemmas.Bool.{ltb-false, le-ltb, leb-true, le-leb, and_parts, and_from}
 use Rattle.std.proofs.lemmas.List.{take_at, drop_at, take-append-drop, length-take}
-use Rattle.std.proofs.lemmas.List.Elements.{All-from_recursion}
 use Rattle.std.proofs.lemmas.Nat.{le_bytes_2, from_le_bytes-to_le_bytes_2}
-use Rattle.records.specs.Entries.{word, byte, text_fields, joined}
+use Rattle.records.specs.Entries.{word, byte, text_fields}
 use Rattle.records.specs.Laws.{IsBytes}
-use Rattle.records.specs.Reading.{Rest, Read, ◌>>=◌, allowed, bytes_at, byte_at, word_at, text_at}
-use Rattle.records.proofs.Readers.{IsBytes-front, Takes, Field, Field-allowed, Field-fits, Reader, Reader-one, Reader-then, Reader-is, Anything, One, Then, one_before, bind_ok, bind_err, ok_is}
+use Rattle.records.specs.Reading.{Rest, allowed, bytes_at, byte_at, word_at, text_at}
+use Rattle.records.proofs.Readers.{Takes, Field, Field-allowed, Field-fits, Reader, Reader-one, Reader-then, Reader-is, Anything, One, one_before, bind_ok, bind_err, ok_is}
 
 -- a value by its place in a list of bytes
 get_or_below : (bytes : List ℕ) → IsBytes bytes → (i : ℕ) → get_or bytes i 0 < 256
@@ -23,19 +22,23 @@ get_or_below (b ∷ bytes) fits (suc i) = get_or_below bytes fits.1 i
 pub within_is : (low high n : ℕ) → within low high n ≡ true → (low ≤ n) × (n ≤ high)
 within_is low high n e = let both = and_parts (nat_le low n) (nat_le n high) e in (leb-true _ _ both.0, leb-true _ _ both.1)
 
+-- a number between two bounds passes the test
 pub is_within : (low high n : ℕ) → low ≤ n → n ≤ high → within low high n ≡ true
 is_within low high n above below = and_from (nat_le low n) (nat_le n high) (le-leb _ _ above) (le-leb _ _ below)
 
 -- ---- so many bytes
 
+-- bytes that are not cut off
 cut_off : (b : Bool) (x y : List ℕ × Rest) (n : ℕ) → cond b (Err n) (Ok x) ≡ Ok y → (b ≡ false) × (x ≡ y)
 cut_off true x y n e = absurd cc
 cut_off false x y n e = (refl, cc)
 
+-- the place where they are
 cut_place : (b : Bool) (x : List ℕ × Rest) (m n : ℕ) → cond b (Err m) (Ok x) ≡ Err n → n ≡ m
 cut_place true x m n e = cc
 cut_place false x m n e = absurd cc
 
+-- so many bytes are one field
 pub bytes_field : (n : ℕ) → Field (bytes_at n) (λ bytes. length bytes ≡ n) (λ bytes. bytes)
 unfolding bytes_at
 bytes_field n = record {
@@ -56,28 +59,33 @@ bytes_field n = record {
 
 -- ---- one byte
 
+-- a byte is missing at the place where it is read
 byte_fails : (place : ℕ) (bytes : List ℕ) (n : ℕ) → byte_at (record { place = place; bytes = bytes }) ≡ Err n → n ≡ place
 unfolding byte_at
 byte_fails place [] n e = cc
 byte_fails place (b ∷ bytes) n e = absurd cc
 
+-- behind a byte its place has gone by
 byte_passes : (place : ℕ) (bytes : List ℕ) (x : ℕ × Rest) → byte_at (record { place = place; bytes = bytes }) ≡ Ok x → place ≤ x.1.place
 unfolding byte_at
 byte_passes place [] x e = absurd cc
 byte_passes place (b ∷ bytes) x e = omega (arith, ap (λ (z : ℕ × Rest). z.1.place) (ok_is (b, record { place = place + 1; bytes = bytes }) x e))
 
+-- a byte that is read stood there
 byte_taken : (place : ℕ) (bytes : List ℕ) (x : ℕ × Rest) → byte_at (record { place = place; bytes = bytes }) ≡ Ok x → Takes (record { place = place; bytes = bytes }) (byte x.0) x.1
 unfolding byte_at
 byte_taken place [] x e = absurd cc
 byte_taken place (b ∷ bytes) x e =
     subst (λ (z : ℕ × Rest). Takes (record { place = place; bytes = b ∷ bytes }) (byte z.0) z.1) (ok_is (b, record { place = place + 1; bytes = bytes }) x e) (record { bytes = refl; place = refl })
 
+-- a byte that stands there is read
 byte_again : (r s : Rest) (b : ℕ) → Takes r (byte b) s → byte_at r ≡ Ok (b, s)
 unfolding byte_at
 byte_again r s b t =
     let place : r.place + 1 ≡ s.place = omega (arith, t.place) in
     rw (t.bytes, place) refl
 
+-- a byte is one field
 pub byte_field : Field byte_at (λ _. Unit {0}) byte
 byte_field = record {
   fails = λ r n e. byte_fails r.place r.bytes n e;
@@ -88,15 +96,18 @@ byte_field = record {
 
 -- ---- two bytes
 
+-- two bytes make a number below 2 ^ 16
 word_below : (x y : ℕ) → IsBytes (x ∷ y ∷ []) → from_le_bytes w16 (x ∷ y ∷ []) < 65536
 word_below x y fits = omega (arith, fits.0, fits.1.0)
 
+-- two bytes are those of the number that they make
 word_is : (bytes : List ℕ) → length bytes ≡ 2 → IsBytes bytes → (from_le_bytes w16 bytes < 65536) × (word (from_le_bytes w16 bytes) ≡ bytes)
 word_is [] len fits = absurd (omega arith)
 word_is (x ∷ []) len fits = absurd (omega arith)
 word_is (x ∷ y ∷ []) len fits = (word_below x y fits, le_bytes_2 (x ∷ y ∷ []) _ refl (get_or_below (x ∷ y ∷ []) fits) refl)
 word_is (x ∷ y ∷ z ∷ bytes) len fits = absurd (omega arith)
 
+-- two bytes are one field, of a number below 2 ^ 16
 pub word_field : Field word_at (λ n. n < 65536) word
 unfolding word_at
 word_field = record {
@@ -122,6 +133,7 @@ pub record IsText (lengths p : ℕ → Bool) (bytes : List ℕ) (fields : List (
   pub fits : IsBytes bytes
   pub spelled : fields ≡ text_fields bytes
 
+-- a text is read from its two fields
 pub text_reads : (lengths characters : ℕ → Bool) → Reader Anything (text_at lengths characters) (IsText lengths characters)
 unfolding text_at
 text_reads lengths characters =
@@ -151,8 +163,10 @@ text_reads lengths characters =
 abbrev pub Byte : (ℕ → Bool) → ℕ → List (List ℕ) → Type 0
 Byte p = One (λ n. Unit {0} × (p n ≡ true)) byte
 
+-- a word that passes a test
 abbrev pub Word : (ℕ → Bool) → ℕ → List (List ℕ) → Type 0
 Word p = One (λ n. (n < 65536) × (p n ≡ true)) word
 
+-- any word
 abbrev pub AnyWord : ℕ → List (List ℕ) → Type 0
 AnyWord = One (λ n. n < 65536) word

@@ -1,16 +1,15 @@
 -- Formats are read from their fields.
-use Rattle.std.proofs.Common.{◌≡◌, ℕ, zero, suc, ◌+◌, ◌<◌, ◌≤◌, Bool, true, false, List, [], ◌∷◌, ◌++◌, map, length, Option, Some, None, Ok, refl, sym, ap, subst, ◌∙◌, inl, inr, ◌⊎◌, append_assoc, arith}
+use Rattle.std.proofs.Common.{◌≡◌, ℕ, zero, suc, ◌<◌, ◌≤◌, Bool, true, List, [], ◌∷◌, ◌++◌, map, length, Option, Some, None, Ok, refl, sym, ap, ◌∙◌, inl, inr, append_assoc, arith}
 use Rattle.std.specs.Prelude.{nat_lt}
 use Rattle.std.specs.List.{AllByRecursion, flat_map, list_all}
-use Rattle.std.specs.Option.{option_map_or}
 use Rattle.std.proofs.lemmas.Bool.{ltb-true, lt-ltb, and_parts, and_from, or_cases}
 use Rattle.std.proofs.lemmas.List.{append-nil, nil_from_length}
 use Rattle.kinds.specs.Alphabet.{within}
 use Rattle.records.specs.Entries.{Format, word, byte, text_fields, id_fields, format_fields, printable, label_character, Rising, AreIds, IsLabel, IsFormat}
 use Rattle.records.specs.Laws.{IsBytes}
-use Rattle.records.specs.Reading.{Rest, Read, ◌>>=◌, allowed, byte_at, word_at, text_at, id_allowed, ids_from, ids_at, labels_from, labels_at, format_at}
-use Rattle.records.proofs.Fields.{byte_field, word_field, text_reads, IsText, Byte, Word, AnyWord, within_is, is_within}
-use Rattle.records.proofs.Readers.{Field-allowed, Reader, Reader-one, Reader-then, Reader-done, Reader-is, Anything, One, Then, Done, one_before, Spelled, Many, Reader-none, Reader-more}
+use Rattle.records.specs.Reading.{Rest, Read, ◌>>=◌, text_at, id_allowed, ids_from, ids_at, labels_from, labels_at, format_at}
+use Rattle.records.proofs.Fields.{byte_field, word_field, text_reads, IsText, Word, AnyWord, within_is, is_within}
+use Rattle.records.proofs.Readers.{Field-allowed, Reader, Reader-one, Reader-then, Reader-done, Reader-is, Anything, Then, Done, one_before, Spelled, Many, Reader-none, Reader-more}
 
 -- ---- labels
 
@@ -21,9 +20,11 @@ bytes_by_test p below (c ∷ text) e =
     let both = and_parts (p c) (list_all p text) e in
     (below c both.0, bytes_by_test p below text both.1)
 
+-- the characters of names are bytes
 printable_below : (c : ℕ) → printable c ≡ true → c < 256
 printable_below c e = omega (arith, (within_is 0x20 0x7E c e).1)
 
+-- the characters of labels are bytes
 label_below : (c : ℕ) → label_character c ≡ true → c < 256
 label_below c e =
     elim (or_cases (within 0x30 0x39 c) (within 0x61 0x7A c) e) [
@@ -31,6 +32,7 @@ label_below c e =
       | inr letter ↦ omega (arith, (within_is 0x61 0x7A c letter).1)
     ]
 
+-- a label is read from its fields
 pub label_reads : Reader Anything (text_at (within 1 8) label_character) (Spelled IsLabel text_fields)
 label_reads =
     Reader-is (Spelled IsLabel text_fields)
@@ -41,6 +43,7 @@ label_reads =
     record { len = is_within 1 8 (length label) h.fits.some h.fits.few; characters = h.fits.characters; fits = bytes_by_test label_character label_below label h.fits.characters; spelled = h.spelled })
     (text_reads (within 1 8) label_character)
 
+-- so many labels are read from their fields
 labels_read_from : (n : ℕ) → Reader Anything (labels_from n) (Many IsLabel text_fields n)
 unfolding labels_from
 labels_read_from zero = Reader-none IsLabel text_fields
@@ -55,6 +58,7 @@ record AreLabels (labels : List (List ℕ)) : Type 0 where
 abbrev label_fields : List (List ℕ) → List (List ℕ)
 label_fields labels = byte (length labels) ∷ flat_map text_fields labels
 
+-- labels are read from their number and their fields
 labels_read : Reader Anything labels_at (Spelled AreLabels label_fields)
 unfolding labels_at
 labels_read =
@@ -87,18 +91,22 @@ abbrev RisingFrom : Option ℕ → List ℕ → Type 0
 RisingFrom None ids = Rising ids
 RisingFrom (Some before) ids = Rising (before ∷ ids)
 
+-- what the test of an id says
 id_is : (bound : ℕ) (before : Option ℕ) (id : ℕ) → id_allowed bound before id ≡ true → Above before id × (id < bound)
 id_is bound None id e = (tt, ltb-true _ _ e)
 id_is bound (Some b) id e = let both = and_parts (nat_lt b id) (nat_lt id bound) e in (ltb-true _ _ both.0, ltb-true _ _ both.1)
 
+-- an id of which that holds passes the test
 is_id : (bound : ℕ) (before : Option ℕ) (id : ℕ) → Above before id → id < bound → id_allowed bound before id ≡ true
 is_id bound None id above below = lt-ltb _ _ below
 is_id bound (Some b) id above below = and_from (nat_lt b id) (nat_lt id bound) (lt-ltb _ _ above) (lt-ltb _ _ below)
 
+-- an id above the one before it, and then ids that rise from it on
 rises : (before : Option ℕ) (id : ℕ) (ids : List ℕ) → Above before id → Rising (id ∷ ids) → RisingFrom before (id ∷ ids)
 rises None id ids above rising = rising
 rises (Some b) id ids above rising = (above, rising)
 
+-- the same the other way round
 risen : (before : Option ℕ) (id : ℕ) (ids : List ℕ) → RisingFrom before (id ∷ ids) → Above before id × Rising (id ∷ ids)
 risen None id ids h = (tt, h)
 risen (Some b) id ids h = h
@@ -111,9 +119,11 @@ record ManyIds (bound : ℕ) (before : Option ℕ) (n : ℕ) (ids : List ℕ) (f
   rising : RisingFrom before ids
   spelled : fields ≡ map word ids
 
+-- an id, and then so many others
 abbrev MoreIds : ℕ → Option ℕ → ℕ → List ℕ → List (List ℕ) → Type 0
 MoreIds bound before n = Then (Word (id_allowed bound before)) (λ id. Then (ManyIds bound (Some id) n) (λ ids. Done (id ∷ ids)))
 
+-- an id and others are one more id
 ids_from_more : (bound : ℕ) (before : Option ℕ) (n : ℕ) (ids : List ℕ) (fields : List (List ℕ)) → MoreIds bound before n ids fields → ManyIds bound before (suc n) ids fields
 ids_from_more bound before n ids fields h =
     let id = h.part in
@@ -129,6 +139,7 @@ ids_from_more bound before n ids fields h =
       spelled = one_before h ∙ ap (λ fs. word id ∷ fs) behind;
     })
 
+-- one more id is an id and others
 more_from_ids : (bound : ℕ) (before : Option ℕ) (n : ℕ) (ids : List ℕ) (fields : List (List ℕ)) → ManyIds bound before (suc n) ids fields → MoreIds bound before n ids fields
 more_from_ids bound before n [] fields h = absurd (omega (arith, h.len))
 more_from_ids bound before n (id ∷ ids) fields h =
@@ -149,10 +160,12 @@ more_from_ids bound before n (id ∷ ids) fields h =
       all = h.spelled;
     }
 
+-- no ids rise
 rising_from_none : (before : Option ℕ) → RisingFrom before []
 rising_from_none None = tt
 rising_from_none (Some b) = tt
 
+-- so many ids are read from their fields
 ids_read_from : (bound : ℕ) (before : Option ℕ) (n : ℕ) → Reader Anything (ids_from bound before n) (ManyIds bound before n)
 unfolding ids_from
 ids_read_from bound before zero =
@@ -174,6 +187,7 @@ record IdsFit (bound : ℕ) (ids : List ℕ) : Type 0 where
   are : AreIds bound ids
   words : AllByRecursion (λ id. id < 65536) ids
 
+-- ids are read from their number and their fields
 ids_read : (bound : ℕ) → Reader Anything (ids_at bound) (Spelled (IdsFit bound) id_fields)
 unfolding ids_at
 ids_read bound =
@@ -196,6 +210,7 @@ ids_read bound =
 
 -- ---- formats
 
+-- a format of its parts
 abbrev made : ℕ → List ℕ → List ℕ → List ℕ → List (List ℕ) → Format
 made id name signatures outranked labels = record { id = id; name = name; signatures = signatures; outranked = outranked; labels = labels }
 
@@ -205,33 +220,41 @@ labels_behind id name signatures outranked r = do
   labels ← labels_at r
   Ok (made id name signatures outranked labels.0, labels.1)
 
+-- what is read behind the id, the name and the signatures
 abbrev outranked_behind : ℕ → List ℕ → List ℕ → Rest → Read Format
 outranked_behind id name signatures r = do
   outranked ← ids_at id r
   labels_behind id name signatures outranked.0 outranked.1
 
+-- what is read behind the id and the name
 abbrev signatures_behind : ℕ → List ℕ → Rest → Read Format
 signatures_behind id name r = do
   signatures ← ids_at 65536 r
   outranked_behind id name signatures.0 signatures.1
 
+-- what is read behind the id
 abbrev name_behind : ℕ → Rest → Read Format
 name_behind id r = do
   name ← text_at (within 0 40) printable r
   signatures_behind id name.0 name.1
 
+-- the parts of a format from its labels on
 abbrev LabelsParts : ℕ → List ℕ → List ℕ → List ℕ → Format → List (List ℕ) → Type 0
 LabelsParts id name signatures outranked = Then (Spelled AreLabels label_fields) (λ labels. Done (made id name signatures outranked labels))
 
+-- those from the outranked formats on
 abbrev OutrankedParts : ℕ → List ℕ → List ℕ → Format → List (List ℕ) → Type 0
 OutrankedParts id name signatures = Then (Spelled (IdsFit id) id_fields) (LabelsParts id name signatures)
 
+-- those from the signatures on
 abbrev SignaturesParts : ℕ → List ℕ → Format → List (List ℕ) → Type 0
 SignaturesParts id name = Then (Spelled (IdsFit 65536) id_fields) (OutrankedParts id name)
 
+-- those from the name on
 abbrev NameParts : ℕ → Format → List (List ℕ) → Type 0
 NameParts id = Then (IsText (within 0 40) printable) (SignaturesParts id)
 
+-- all parts of a format
 abbrev FormatParts : Format → List (List ℕ) → Type 0
 FormatParts = Then AnyWord NameParts
 
@@ -247,6 +270,7 @@ regrouped f =
     let outranked = id_fields f.outranked in
     ap (λ rest. word f.id ∷ rest) (append_assoc (name ++ signatures) outranked (label_fields f.labels) ∙ append_assoc name signatures (outranked ++ label_fields f.labels))
 
+-- a format whose parts are read has its spelling
 format_from_parts : (f : Format) (fields : List (List ℕ)) → FormatParts f fields → Spelled IsFormat format_fields f fields
 format_from_parts f fields h =
     let id = h.part in
@@ -278,6 +302,7 @@ ids_are_words : (bound : ℕ) → bound < 65536 → (ids : List ℕ) → AllByRe
 ids_are_words bound le [] h = tt
 ids_are_words bound le (id ∷ ids) h = (omega (arith, h.0), ids_are_words bound le ids h.1)
 
+-- the parts of a format that has a spelling
 parts_from_format : (f : Format) (fields : List (List ℕ)) → Spelled IsFormat format_fields f fields → FormatParts f fields
 parts_from_format f fields h =
     let labels = label_fields f.labels in
@@ -320,6 +345,7 @@ parts_from_format f fields h =
       all = h.spelled ∙ regrouped f;
     }
 
+-- a format is read from its fields
 pub format_reads : Reader Anything format_at (Spelled IsFormat format_fields)
 unfolding format_at
 format_reads =

@@ -1,9 +1,9 @@
 -- How long bodies are: their length fits its field.
-use Rattle.std.proofs.Common.{◌≡◌, ℕ, suc, ◌+◌, ◌*◌, ◌<◌, ◌≤◌, List, [], ◌∷◌, ◌++◌, map, length, refl, ap, ◌∙◌, arith, length-append}
+use Rattle.std.proofs.Common.{◌≡◌, ℕ, ◌+◌, ◌*◌, ◌<◌, ◌≤◌, List, [], ◌∷◌, ◌++◌, map, length, refl, ap, ◌∙◌, arith, length-append}
 use Rattle.std.specs.List.{AllByRecursion, flat_map}
 use Rattle.patterns.specs.declared.reference.Reference.{Reference}
 use Rattle.patterns.specs.declared.reference.Reference.TheVariants.{Front, Back, Anywhere}
-use Rattle.records.specs.Entries.{Sequence, Signature, Format, Entry, signature, format, word, joined, reference_fields, text_fields, sequence_fields, id_fields, signature_fields, format_fields, body_of, IsSequence, IsLabel, IsEntry}
+use Rattle.records.specs.Entries.{Sequence, Entry, signature, format, word, joined, reference_fields, text_fields, sequence_fields, id_fields, body_of, IsSequence, IsLabel, IsEntry}
 use Rattle.records.proofs.Readers.{joined-append}
 
 -- the bytes of fields, and then of others
@@ -17,24 +17,30 @@ length_each Fits F most each (x ∷ xs) h =
     let others = length_each Fits F most each xs h.1 in
     omega (arith, length_both (F x) (flat_map F xs), each x h.0, others)
 
+-- a text has one byte more than its characters
 length_text : (text : List ℕ) → length (joined (text_fields text)) ≡ length text + 1
 length_text text = omega (arith, length-append text [])
 
+-- a reference has five bytes
 length_reference : (reference : Reference) → length (joined (reference_fields reference)) ≡ 5
 length_reference (Front least most) = refl
 length_reference (Back least most) = refl
 length_reference Anywhere = refl
 
+-- a sequence has at most 206 bytes
 length_sequence : (q : Sequence) → IsSequence q → length (joined (sequence_fields q)) ≤ 206
 length_sequence q h = omega (arith, length_both (reference_fields q.reference) (text_fields q.text), length_reference q.reference, length_text q.text, h.few)
 
+-- an id has two bytes
 length_ids : (ids : List ℕ) → length (joined (map word ids)) ≡ 2 * length ids
 length_ids [] = refl
 length_ids (id ∷ ids) = omega (arith, length_ids ids)
 
+-- so have ids, behind a byte for their number
 length_id_fields : (ids : List ℕ) → length (joined (id_fields ids)) ≡ 2 * length ids + 1
 length_id_fields ids = omega (arith, length_ids ids)
 
+-- a label has at most nine bytes
 length_label : (label : List ℕ) → IsLabel label → length (joined (text_fields label)) ≤ 9
 length_label label h = omega (arith, length_text label, h.few)
 

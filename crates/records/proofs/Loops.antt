@@ -1,5 +1,5 @@
 -- Reading so many values one after the other, as a loop does.
-use Rattle.std.proofs.Common.{◌≡◌, ℕ, zero, suc, ◌-◌, ◌+◌, ◌≤◌, ◌<◌, List, [], ◌∷◌, ◌++◌, Option, Some, Result, Ok, Err, refl, sym, ap, ◌∙◌, append_assoc, arith}
+use Rattle.std.proofs.Common.{◌≡◌, ℕ, suc, ◌-◌, ◌+◌, ◌≤◌, ◌<◌, List, [], ◌∷◌, ◌++◌, Option, Some, Ok, Err, refl, sym, ap, ◌∙◌, append_assoc, arith}
 use Rattle.std.proofs.lemmas.List.{append-nil}
 use Rattle.records.specs.Reading.{Rest, Read, ◌>>=◌, allowed, word_at, text_at, sequence_at, sequences_at, id_allowed, ids_from, labels_from}
 use Rattle.records.specs.Entries.{label_character}
@@ -58,6 +58,7 @@ labels_repeat = record { none = λ _ r. refl; more = λ _ n r. refl }
 abbrev pub id_at : ℕ → Option ℕ → Rest → Read ℕ
 id_at bound before r = allowed (id_allowed bound before) r (word_at r)
 
+-- ids are read one after the other
 pub ids_repeat : (bound : ℕ) → Repeats (id_at bound) (λ _ id. Some id) (ids_from bound)
 unfolding ids_from
 ids_repeat bound = record { none = λ _ r. refl; more = λ _ n r. refl }

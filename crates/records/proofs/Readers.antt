@@ -1,5 +1,5 @@
 -- Readers: how values are read from fields, and how reading one and then another is put together.
-use Rattle.std.proofs.Common.{◌≡◌, ℕ, zero, suc, ◌+◌, ◌<◌, ◌≤◌, Bool, true, false, cond, List, [], ◌∷◌, ◌++◌, length, Result, Ok, Err, refl, sym, ap, subst, ◌∙◌, inl, inr, ◌⊎◌, append_assoc, arith, length-append}
+use Rattle.std.proofs.Common.{◌≡◌, ℕ, suc, ◌+◌, ◌≤◌, Bool, true, false, cond, List, [], ◌∷◌, ◌++◌, length, Result, Ok, Err, refl, sym, ap, subst, ◌∙◌, inl, inr, ◌⊎◌, append_assoc, arith, length-append}
 use Rattle.std.specs.Prelude.{◌==◌, if◌then◌else◌}
 use Rattle.std.specs.List.{AllByRecursion, flat_map}
 use Rattle.std.proofs.lemmas.Bool.{eqb-true}
@@ -31,6 +31,7 @@ Takes-then r s t x y p q = record {
   place = omega (arith, p.place, q.place, length-append x y);
 }
 
+-- what is left, by its place and its bytes
 abbrev rest : ℕ → List ℕ → Rest
 rest place bytes = record { place = place; bytes = bytes }
 
@@ -49,10 +50,12 @@ pub reaches_by_cases : {A : Type 0} (read : Read A) (n : ℕ) → ((x : A × Res
 reaches_by_cases (Ok x) n ok err = ok x refl
 reaches_by_cases (Err m) n ok err = err m refl
 
+-- what reaches a place reaches each place before it
 reaches_earlier : {A : Type 0} (read : Read A) (m n : ℕ) → m ≤ n → Reaches n read → Reaches m read
 reaches_earlier (Ok x) m n le h = omega arith
 reaches_earlier (Err k) m n le h = omega arith
 
+-- a fault is not before a place that was reached
 reaches_err : {A : Type 0} (read : Read A) (m n : ℕ) → read ≡ Err n → Reaches m read → m ≤ n
 reaches_err (Ok x) m n e h = absurd cc
 reaches_err (Err k) m n e h = let same : k ≡ n = cc in omega arith
@@ -72,6 +75,7 @@ pub bind_err : {A B : Type 0} (read : Result A ℕ) (f : A → B) (place n : ℕ
 bind_err (Ok x) f place n fails e = absurd cc
 bind_err (Err m) f place n fails e = let same : m ≡ n = cc in sym same ∙ fails m refl
 
+-- values that are read alike are one
 pub ok_is : {A : Type 0} (x y : A) → ◌≡◌ {A = Result A ℕ} (Ok x) (Ok y) → x ≡ y
 ok_is x y e = cc
 
@@ -107,14 +111,17 @@ pub guard_ok : {A : Type 0} (b : Bool) (x y : A) (n : ℕ) → cond b (Ok x) (Er
 guard_ok true x y n e = (refl, cc)
 guard_ok false x y n e = absurd cc
 
+-- the place of the fault, if it is chosen
 guard_err : {A : Type 0} (b : Bool) (x : A) (m n : ℕ) → cond b (Ok x) (Err m) ≡ Err n → m ≡ n
 guard_err true x m n e = absurd cc
 guard_err false x m n e = cc
 
+-- a value that is not allowed is at fault where it is read
 allowed_err : {A : Type 0} (p : A → Bool) (r : Rest) (read : Read A) (n : ℕ) → ((m : ℕ) → read ≡ Err m → m ≡ r.place) → allowed p r read ≡ Err n → n ≡ r.place
 allowed_err p r (Ok x) n fails e = sym (guard_err (p x.0) x r.place n e)
 allowed_err p r (Err m) n fails e = let same : m ≡ n = cc in sym same ∙ fails m refl
 
+-- a value that is allowed passes the test
 allowed_ok : {A : Type 0} (p : A → Bool) (r : Rest) (read : Read A) (x : A × Rest) → allowed p r read ≡ Ok x → (read ≡ Ok x) × (p x.0 ≡ true)
 allowed_ok {A} p r (Ok y) x e = let g = guard_ok (p y.0) y x r.place e in (ap (λ z. Ok z) g.1, subst (λ (z : A × Rest). p z.0 ≡ true) g.1 g.0)
 allowed_ok p r (Err m) x e = absurd cc
@@ -401,9 +408,11 @@ module _ {A : Type 0} (Fits : A → Type 0) (F : A → List (List ℕ)) where
       record { same = none; none = h.spelled ∙ ap (flat_map F) none })
       (Reader-done [])
 
+  -- a value, and then so many others
   abbrev More : ℕ → List A → List (List ℕ) → Type 0
   More n = Then (Spelled Fits F) (λ first. Then (Many Fits F n) (λ others. Done (first ∷ others)))
 
+  -- a value and others are one more value
   many_from_more : (n : ℕ) (xs : List A) (fields : List (List ℕ)) → More n xs fields → Many Fits F (suc n) xs fields
   many_from_more n xs fields h =
       let first = h.part in
@@ -412,6 +421,7 @@ module _ {A : Type 0} (Fits : A → Type 0) (F : A → List (List ℕ)) where
       let spelled : fields ≡ F first ++ flat_map F others = h.all ∙ ap (λ before. before ++ h.behind) h.first.spelled ∙ ap (λ rest. F first ++ rest) behind in
       rw (h.others.others.same) (record { len = ap suc h.others.first.len; each = (h.first.fits, h.others.first.each); spelled = spelled })
 
+  -- one more value is a value and others
   more_from_many : (n : ℕ) (xs : List A) (fields : List (List ℕ)) → Many Fits F (suc n) xs fields → More n xs fields
   more_from_many n [] fields h = absurd (omega (arith, h.len))
   more_from_many n (x ∷ xs) fields h = record {

@@ -1,17 +1,16 @@
 -- Records are read from their fields, and the laws of that.
-use Rattle.std.proofs.Common.{◌≡◌, ℕ, zero, suc, ◌+◌, ◌-◌, ◌*◌, ◌<◌, ◌≤◌, Bool, true, false, cond, List, [], ◌∷◌, ◌++◌, length, take, drop, Result, Ok, Err, refl, sym, ap, subst, ◌∙◌, inl, inr, ◌⊎◌, append_assoc, arith, length-append}
+use Rattle.std.proofs.Common.{◌≡◌, ℕ, ◌+◌, ◌-◌, ◌<◌, ◌≤◌, Bool, true, false, cond, List, [], ◌∷◌, ◌++◌, length, take, drop, Result, Ok, Err, refl, sym, ap, subst, ◌∙◌, inl, inr, append_assoc, arith, length-append}
 use Rattle.std.specs.Prelude.{◌==◌, ◌||◌, if◌then◌else◌}
-use Rattle.std.specs.List.{AllByRecursion, flat_map}
 use Rattle.std.proofs.lemmas.Bool.{eqb-true, eq-eqb, ne_eqb, or_left, or_right, cases_lt}
 use Rattle.std.proofs.lemmas.List.{append-nil, take-append-drop, take_all, length-take, length-drop}
 use Rattle.kinds.specs.Alphabet.{Alphabet, Lawful}
-use Rattle.records.specs.Entries.{Signature, Format, Entry, signature, format, word, joined, signature_fields, format_fields, body_fields, body_of, kind_of, record_fields, record_of, IsSignature, IsFormat, IsEntry}
+use Rattle.records.specs.Entries.{Entry, signature, format, word, joined, signature_fields, format_fields, body_fields, body_of, kind_of, record_fields, record_of, IsSignature, IsFormat, IsEntry}
 use Rattle.records.specs.Laws.{IsBytes, NotBefore, ReadIsSpelled, SpelledIsRead, SpelledApart, NothingBefore, FieldAtFault, FirstFault}
 use Rattle.records.specs.Reading.{Rest, Read, ◌>>=◌, allowed, word_at, signature_at, format_at, ended, signature_of, format_of, kind_at, entry_of, entry_at}
 use Rattle.records.proofs.Fields.{word_field, Word}
 use Rattle.records.proofs.Formats.{format_reads}
 use Rattle.records.proofs.Lengths.{body_fits}
-use Rattle.records.proofs.Readers.{joined-append, Takes, Reaches, Field-allowed, Reader, Reader-one, Reader-then, Reader-ended, Reader-is, Anything, Nothing, One, Then, Done, one_before, Spelled, end_at, bind_ok, ok_is}
+use Rattle.records.proofs.Readers.{joined-append, Reaches, Field-allowed, Reader, Reader-one, Reader-then, Reader-ended, Reader-is, Anything, Nothing, Then, Done, one_before, Spelled, end_at, bind_ok, ok_is}
 use Rattle.records.proofs.Signatures.{signature_reads}
 
 -- ---- a whole record as a reader
@@ -34,6 +33,7 @@ abbrev body_at : Bool → Rest → Read Entry
 body_at true r = signature_at r >>= λ s. end_at (signature s.0) s.1
 body_at false r = format_at r >>= λ f. end_at (format f.0) f.1
 
+-- the entry of a body is what is read of it, with nothing left
 entry_of_alone : (b : Bool) (r : Rest) → entry_of b r ≡ alone (body_at b r)
 unfolding signature_of format_of
 entry_of_alone true r = ended_alone (signature_at r) (λ s. signature s)
@@ -44,11 +44,13 @@ abbrev BodyParts : Bool → Entry → List (List ℕ) → Type 0
 BodyParts true = Then (Spelled IsSignature signature_fields) (λ s. Done (signature s))
 BodyParts false = Then (Spelled IsFormat format_fields) (λ f. Done (format f))
 
+-- a body is read from its fields
 body_reads : (b : Bool) → Reader Nothing (body_at b) (BodyParts b)
 body_reads true = Reader-then Nothing (λ s. end_at (signature s)) (λ s. Done (signature s)) signature_reads (λ s. Reader-ended (signature s))
 body_reads false = Reader-then Nothing (λ f. end_at (format f)) (λ f. Done (format f)) format_reads (λ f. Reader-ended (format f))
 
 module _ {E : Type 0} (a : Alphabet E) where
+  -- the kinds of records of signatures and of formats
   abbrev wanted : ℕ → Bool
   wanted k = k == a.signature_record || k == a.format_record
 
@@ -64,6 +66,7 @@ module _ {E : Type 0} (a : Alphabet E) where
     kind ← header_at total r
     body_at (kind.0 == a.signature_record) kind.1
 
+  -- a record from its beginning on
   abbrev pub start : List ℕ → Rest
   start bytes = record { place = 0; bytes = bytes }
 
@@ -86,6 +89,7 @@ module _ {E : Type 0} (a : Alphabet E) where
     kind : kind_of a e ≡ kind_by b
     spelled : fields ≡ body_fields e
 
+  -- a body whose parts are read is that of an entry
   body_from_parts : (b : Bool) (e : Entry) (fields : List (List ℕ)) → BodyParts b e fields → BodyIs b e fields
   body_from_parts true e fields h =
       let spelled : fields ≡ signature_fields h.part = h.all ∙ ap (λ before. before ++ h.behind) h.first.spelled ∙ ap (λ rest. signature_fields h.part ++ rest) h.others.none ∙ append-nil (signature_fields h.part) in
@@ -106,6 +110,7 @@ module _ {E : Type 0} (a : Alphabet E) where
   abbrev Header : ℕ → ℕ → List (List ℕ) → Type 0
   Header total = Then (Word (λ n. n == total - 4)) (λ len. Word wanted)
 
+  -- the length and the kind are read from their fields
   header_reads : (total : ℕ) → Reader Anything (header_at total) (Header total)
   header_reads total =
       Reader-then Anything (λ len r. allowed wanted r (word_at r)) (λ len. Word wanted)
@@ -122,6 +127,7 @@ module _ {E : Type 0} (a : Alphabet E) where
     pub len : total - 4 < 65536
     pub spelled : fields ≡ word (total - 4) ∷ word (kind_of a e) ∷ body_fields e
 
+  -- an entry whose parts are read stands in its record
   whole_from_parts : (total : ℕ) (e : Entry) (fields : List (List ℕ)) → WholeParts total e fields → InRecord total e fields
   whole_from_parts total e fields h =
       let len = h.first.part in
@@ -155,6 +161,7 @@ module _ {E : Type 0} (a : Alphabet E) where
   }
 
   module _ (lawful : Lawful a) where
+    -- the parts of the record of an entry
     whole_parts : (total : ℕ) (e : Entry) → IsEntry e → total - 4 < 65536 → WholeParts total e (word (total - 4) ∷ word (kind_of a e) ∷ body_fields e)
     whole_parts total (signature s) fits len =
         let kind = a.signature_record in
@@ -202,6 +209,7 @@ module _ {E : Type 0} (a : Alphabet E) where
           spelled = ap (λ n. word n ∷ word (kind_of a e) ∷ body_fields e) (sym total);
         }
 
+    -- the law that what is read is spelled
     pub read_is_spelled : ReadIsSpelled a
     read_is_spelled bytes e fits read =
         let whole = bind_ok (whole_at (length bytes) (start bytes)) (λ x. Ok x.0) e (sym (entry_alone bytes) ∙ read) in
@@ -214,6 +222,7 @@ module _ {E : Type 0} (a : Alphabet E) where
         let total : length bytes - 4 ≡ length (body_of e) = omega (arith, ap (λ (bs : List ℕ). length bs) spelled) in
         (taken.fits, spelled ∙ ap (λ n. joined (word n ∷ word (kind_of a e) ∷ body_fields e)) total)
 
+    -- the law that what is spelled is read
     pub spelled_is_read : SpelledIsRead a
     spelled_is_read e fits =
         let bytes = record_of a e in
@@ -221,6 +230,7 @@ module _ {E : Type 0} (a : Alphabet E) where
         let read : whole_at (length bytes) (start bytes) ≡ Ok (e, behind) = (whole_reads (length bytes)).again (start bytes) behind e (record_fields a e) (in_its_record bytes e fits refl) (record { bytes = sym (append-nil bytes); place = omega arith }) refl in
         entry_alone bytes ∙ ap alone read
 
+    -- the law that no two entries have one spelling
     pub spelled_apart : SpelledApart a
     spelled_apart d e d_fits e_fits same = ok_is d e (sym (spelled_is_read d d_fits) ∙ ap (entry_at a) same ∙ spelled_is_read e e_fits)
 
@@ -229,6 +239,7 @@ module _ {E : Type 0} (a : Alphabet E) where
     not_before n (Ok x) h = tt
     not_before n (Err m) h = h
 
+    -- a fault of what is read alone is one of what is read
     alone_err : {A : Type 0} (read : Read A) (n : ℕ) → alone read ≡ Err n → read ≡ Err n
     alone_err (Ok x) n e = absurd cc
     alone_err {A} (Err m) n e = let same : m ≡ n = cc in ap (λ (k : ℕ). Err k) same
@@ -237,6 +248,7 @@ module _ {E : Type 0} (a : Alphabet E) where
     whole_err : (bytes : List ℕ) (n : ℕ) → entry_at a bytes ≡ Err n → whole_at (length bytes) (start bytes) ≡ Err n
     whole_err bytes n refused = alone_err (whole_at (length bytes) (start bytes)) n (sym (entry_alone bytes) ∙ refused)
 
+    -- nothing before the place of a fault is at fault
     nothing_before : (bytes : List ℕ) (n : ℕ) → IsBytes bytes → entry_at a bytes ≡ Err n → NothingBefore a bytes n
     nothing_before bytes n fits refused others same_length begins =
         elim (cases_lt (length bytes) n) [
@@ -252,6 +264,7 @@ module _ {E : Type 0} (a : Alphabet E) where
               subst (λ (read : Result Entry ℕ). NotBefore n read) (sym (entry_alone others ∙ ap (λ len. alone (whole_at len (start others))) same_length)) (not_before n (whole_at total (start others)) reached)
         ]
 
+    -- the field at the place of a fault is at fault
     field_at_fault : (bytes : List ℕ) (n : ℕ) → entry_at a bytes ≡ Err n → FieldAtFault a bytes n
     field_at_fault bytes n refused e front field rest fits same_length fields begins some stands =
         let size = length field in
@@ -266,5 +279,6 @@ module _ {E : Type 0} (a : Alphabet E) where
         let late : length (joined upto) ≤ n = subst (λ (read : Read Entry). Reaches (length (joined upto)) read) (whole_err bytes n refused) (subst (λ m. Reaches m (whole_at total (start bytes))) (omega arith) reached) in
         absurd (omega (arith, late, ap (λ (bs : List ℕ). length bs) text, length-append (joined front) field, ap (λ (bs : List ℕ). length bs) begins, length-take n bytes, ap (λ (bs : List ℕ). length bs) stands, length-take size (drop n bytes), length-drop n bytes))
 
+    -- the law of the first fault
     pub first_fault : FirstFault a
     first_fault bytes n fits refused = (nothing_before bytes n fits refused, field_at_fault bytes n refused)

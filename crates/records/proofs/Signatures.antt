@@ -1,17 +1,16 @@
 -- Signatures are read from their fields.
-use Rattle.std.proofs.Common.{◌≡◌, ℕ, zero, suc, ◌+◌, ◌<◌, ◌≤◌, Bool, true, false, List, [], ◌∷◌, ◌++◌, length, Ok, refl, sym, ap, subst, ◌∙◌, inl, inr, ◌⊎◌, arith}
+use Rattle.std.proofs.Common.{◌≡◌, ℕ, zero, suc, ◌<◌, Bool, true, false, List, [], ◌∷◌, ◌++◌, length, Ok, refl, sym, ap, subst, ◌∙◌, inl, inr, ◌⊎◌, arith}
 use Rattle.std.specs.Prelude.{◌==◌, ◌||◌, if◌then◌else◌}
-use Rattle.std.specs.List.{AllByRecursion, flat_map, list_all}
+use Rattle.std.specs.List.{flat_map, list_all}
 use Rattle.std.proofs.lemmas.Bool.{eqb-true, leb-true, le-leb, or_cases}
 use Rattle.std.proofs.lemmas.List.{append-nil}
 use Rattle.kinds.specs.Alphabet.{within}
 use Rattle.patterns.specs.declared.reference.Reference.{Reference}
 use Rattle.patterns.specs.declared.reference.Reference.TheVariants.{Front, Back, Anywhere}
 use Rattle.records.specs.Entries.{Sequence, Signature, word, byte, text_fields, reference_fields, sequence_fields, signature_fields, Offsets, IsSequence, IsSignature}
-use Rattle.records.specs.Laws.{IsBytes}
 use Rattle.records.specs.Reading.{Rest, Read, ◌>>=◌, allowed, byte_at, word_at, text_at, letter, reference_of, least_allowed, most_allowed, reference_at, sequence_at, sequences_at, signature_at}
 use Rattle.records.proofs.Fields.{byte_field, word_field, text_reads, IsText, Byte, Word, AnyWord, within_is, is_within}
-use Rattle.records.proofs.Readers.{Field-allowed, Reader, Reader-one, Reader-then, Reader-done, Reader-is, Anything, One, Then, Done, one_before, Spelled, Many, Reader-none, Reader-more}
+use Rattle.records.proofs.Readers.{Field-allowed, Reader, Reader-one, Reader-then, Reader-done, Reader-is, Anything, Then, Done, one_before, Spelled, Many, Reader-none, Reader-more}
 
 -- ---- where a sequence is looked for
 
@@ -50,17 +49,21 @@ least_from c r = do
   most ← allowed (most_allowed c least.0) least.1 (word_at least.1)
   Ok (reference_of c least.0 most.0, most.1)
 
+-- the greatest offset behind them
 abbrev most_from : ℕ → ℕ → Rest → Read Reference
 most_from c least r = do
   most ← allowed (most_allowed c least) r (word_at r)
   Ok (reference_of c least most.0, most.1)
 
+-- the part of a reference from the greatest offset on
 abbrev MostParts : ℕ → ℕ → Reference → List (List ℕ) → Type 0
 MostParts c least = Then (Word (most_allowed c least)) (λ most. Done (reference_of c least most))
 
+-- those from the least offset on
 abbrev LeastParts : ℕ → Reference → List (List ℕ) → Type 0
 LeastParts c = Then (Word (least_allowed c)) (MostParts c)
 
+-- all parts of a reference
 abbrev ReferenceParts : Reference → List (List ℕ) → Type 0
 ReferenceParts = Then (Byte letter) LeastParts
 
@@ -98,11 +101,13 @@ parts_of c least most is_letter least_fits is_least most_fits is_most = record {
   all = refl;
 }
 
+-- the same for each reference
 parts_from_reference : (reference : Reference) → Offsets reference → ReferenceParts reference (reference_fields reference)
 parts_from_reference (Front least most) h = parts_of 0x42 least most refl (omega (arith, h.0, h.1)) refl h.1 (le-leb _ _ h.0)
 parts_from_reference (Back least most) h = parts_of 0x45 least most refl (omega (arith, h.0, h.1)) refl h.1 (le-leb _ _ h.0)
 parts_from_reference Anywhere h = parts_of 0x56 0 0 refl (omega arith) refl (omega arith) refl
 
+-- a reference is read from its fields
 pub reference_reads : Reader Anything reference_at IsReference
 unfolding reference_at
 reference_reads =
@@ -123,15 +128,19 @@ any_text : (text : List ℕ) → list_all (λ c. true) text ≡ true
 any_text [] = refl
 any_text (c ∷ text) = any_text text
 
+-- the text of a sequence
 abbrev some_text : Rest → Read (List ℕ)
 some_text = text_at (within 1 200) (λ c. true)
 
+-- such a text and its fields
 abbrev SomeText : List ℕ → List (List ℕ) → Type 0
 SomeText = IsText (within 1 200) (λ c. true)
 
+-- the parts of a sequence
 abbrev SequenceParts : Sequence → List (List ℕ) → Type 0
 SequenceParts = Then IsReference (λ reference. Then SomeText (λ text. Done (record { reference = reference; text = text })))
 
+-- a sequence whose parts are read has its spelling
 sequence_from_parts : (q : Sequence) (fields : List (List ℕ)) → SequenceParts q fields → Spelled IsSequence sequence_fields q fields
 sequence_from_parts q fields h =
     let reference = h.part in
@@ -143,6 +152,7 @@ sequence_from_parts q fields h =
       spelled = refl;
     })
 
+-- the parts of a sequence that has a spelling
 parts_from_sequence : (q : Sequence) (fields : List (List ℕ)) → Spelled IsSequence sequence_fields q fields → SequenceParts q fields
 parts_from_sequence q fields h = record {
   part = q.reference;
@@ -160,6 +170,7 @@ parts_from_sequence q fields h = record {
   all = h.spelled;
 }
 
+-- a sequence is read from its fields
 pub sequence_reads : Reader Anything sequence_at (Spelled IsSequence sequence_fields)
 unfolding sequence_at
 sequence_reads =
@@ -170,6 +181,7 @@ sequence_reads =
     (text_reads (within 1 200) (λ c. true))
     (λ text. Reader-done (record { reference = reference; text = text }))))
 
+-- so many sequences are read from their fields
 pub sequences_read : (n : ℕ) → Reader Anything (sequences_at n) (Many IsSequence sequence_fields n)
 unfolding sequences_at
 sequences_read zero = Reader-none IsSequence sequence_fields
@@ -177,19 +189,23 @@ sequences_read (suc n) = Reader-more IsSequence sequence_fields sequence_reads (
 
 -- ---- signatures
 
+-- a byte that says whether a signature is specific is 1 or 0
 flag_is : (b : ℕ) → within 0 1 b ≡ true → (if b == 1 then 1 else 0) ≡ b
 flag_is zero e = refl
 flag_is (suc zero) e = refl
 flag_is (suc (suc b)) e = absurd (omega (arith, (within_is 0 1 (suc (suc b)) e).1))
 
+-- 1 and 0 are such bytes
 flag_within : (b : Bool) → within 0 1 (if b then 1 else 0) ≡ true
 flag_within true = refl
 flag_within false = refl
 
+-- 1 says that it is specific
 flag_again : (b : Bool) → ((if b then 1 else 0) == 1) ≡ b
 flag_again true = refl
 flag_again false = refl
 
+-- a signature of its parts
 abbrev made : ℕ → ℕ → List Sequence → Signature
 made id specific sequences = record { id = id; specific = specific == 1; sequences = sequences }
 
@@ -199,28 +215,35 @@ sequences_from id specific count r = do
   sequences ← sequences_at count r
   Ok (made id specific sequences.0, sequences.1)
 
+-- what is read behind the id and that byte
 abbrev count_from : ℕ → ℕ → Rest → Read Signature
 count_from id specific r = do
   count ← allowed (within 1 4) r (byte_at r)
   sequences_from id specific count.0 count.1
 
+-- what is read behind the id
 abbrev specific_from : ℕ → Rest → Read Signature
 specific_from id r = do
   specific ← allowed (within 0 1) r (byte_at r)
   count_from id specific.0 specific.1
 
+-- the parts of a signature from its sequences on
 abbrev SequencesParts : ℕ → ℕ → ℕ → Signature → List (List ℕ) → Type 0
 SequencesParts id specific count = Then (Many IsSequence sequence_fields count) (λ sequences. Done (made id specific sequences))
 
+-- those from their number on
 abbrev CountParts : ℕ → ℕ → Signature → List (List ℕ) → Type 0
 CountParts id specific = Then (Byte (within 1 4)) (SequencesParts id specific)
 
+-- those from the byte that says whether it is specific on
 abbrev SpecificParts : ℕ → Signature → List (List ℕ) → Type 0
 SpecificParts id = Then (Byte (within 0 1)) (CountParts id)
 
+-- all parts of a signature
 abbrev SignatureParts : Signature → List (List ℕ) → Type 0
 SignatureParts = Then AnyWord SpecificParts
 
+-- a signature whose parts are read has its spelling
 signature_from_parts : (s : Signature) (fields : List (List ℕ)) → SignatureParts s fields → Spelled IsSignature signature_fields s fields
 signature_from_parts s fields h =
     let id = h.part in
@@ -238,6 +261,7 @@ signature_from_parts s fields h =
       spelled = rw (flag, last.first.len) spelled;
     })
 
+-- the parts of a signature that has a spelling
 parts_from_signature : (s : Signature) (fields : List (List ℕ)) → Spelled IsSignature signature_fields s fields → SignatureParts s fields
 parts_from_signature s fields h =
     let flag : ℕ = if s.specific then 1 else 0 in
@@ -272,6 +296,7 @@ parts_from_signature s fields h =
       all = h.spelled;
     }
 
+-- a signature is read from its fields
 pub signature_reads : Reader Anything signature_at (Spelled IsSignature signature_fields)
 unfolding signature_at
 signature_reads =

@@ -44,7 +44,8 @@ module _ {E : Type 0} (a : Alphabet E) where
   abbrev pub FieldAtFault : List ℕ → ℕ → Type 0
   FieldAtFault bytes place =
       (e : Entry) (front : List (List ℕ)) (field : List ℕ) (rest : List (List ℕ)) → IsEntry e → length (record_of a e) ≡ length bytes
-      → record_fields a e ≡ front ++ field ∷ rest → joined front ≡ take place bytes → 0 < length field → ¬ (take (length field) (drop place bytes) ≡ field)
+      → record_fields a e ≡ front ++ field ∷ rest → joined front ≡ take place bytes → 0 < length field
+      → ¬ (take (length field) (drop place bytes) ≡ field)
 
   -- A refusal is at the first field that is at fault.
   abbrev pub FirstFault : Type 0

@@ -82,10 +82,10 @@ answer_in (Ok e) = Ok (entry_in e)
 answer_in (Err f) = Err f
 
 -- what is read, or the fault of the field at the place that is at fault
-abbrev pub or_field : {A : Type 0} → Result A ℕ → Result A Fault
-or_field (Ok x) = Ok x
-or_field (Err place) = Err (outside Field place)
+abbrev pub or_fault : {A : Type 0} → Result A ℕ → Result A Fault
+or_fault (Ok x) = Ok x
+or_fault (Err place) = Err (outside Field place)
 
 -- the entry of a record, or the refusal of the first field at fault
 abbrev pub entry_read : {E : Type 0} → Alphabet E → List ℕ → Result entry.Entry Fault
-entry_read a bytes = or_field (reading.entry_at a bytes)
+entry_read a bytes = or_fault (reading.entry_at a bytes)

@@ -103,7 +103,7 @@ fn listed_label(rest: Rest<'_>) -> Result<(Label, Rest<'_>), Fault>
     ensures { GivesRest label_in result
         (text_at (within 1 8) label_character (rest_in rest.entry)) }
 {
-    let (text, rest) = rest.text(1, 8, Characters::LowercaseOrDigit)?;
+    let (text, rest) = rest.text(1, MOST_LABEL_CHARACTERS as u8, Characters::LowercaseOrDigit)?;
     let Ok(characters) = ArrayVec::try_from(text) else {
         unreachable!()
     };
@@ -146,7 +146,7 @@ fn fields(rest: Rest<'_>) -> Result<(Format, Rest<'_>), Fault>
     ensures { GivesRest format_in result (format_at (rest_in rest.entry)) }
 {
     let (id, rest) = rest.word()?;
-    let (text, rest) = rest.text(0, 40, Characters::Printable)?;
+    let (text, rest) = rest.text(0, MOST_NAME_CHARACTERS as u8, Characters::Printable)?;
     let Ok(name) = ArrayVec::try_from(text) else {
         unreachable!()
     };

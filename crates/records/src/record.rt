@@ -56,7 +56,7 @@ impl<'r> Record<'r> {
     }
 }
 
-/// The entry of a record of a kind's signatures or formats, or the refusal of the first field, listed
+/// The entry of a record of one of a kind's two kinds, or the refusal of the first field, listed
 /// id or byte that is at fault. The place is its offset in the record.
 #[tactic(auto, unfolding(crate::specs::Reading::entry_at))]
 pub fn read<K: Kind>(bytes: &[u8]) -> Result<Entry<'_>, Fault>

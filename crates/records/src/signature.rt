@@ -138,7 +138,7 @@ fn fields(rest: Rest<'_>) -> Result<(Signature<'_>, Rest<'_>), Fault>
         return Err(rest.fault());
     }
     let (count, behind_count) = behind_specific.byte()?;
-    if !(1..=4).contains(&count) {
+    if !(1..=MOST_SEQUENCES).contains(&usize::from(count)) {
         return Err(behind_specific.fault());
     }
     let (sequences, rest) = sequences(count, behind_count)?;

@@ -1,4 +1,4 @@
-pub mod Bodies
+pub mod Alone
 pub mod Fields
 pub mod Formats
 pub mod Lengths

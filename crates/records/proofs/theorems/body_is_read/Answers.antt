@@ -1,4 +1,4 @@
-use Rattle.records.proofs.Bodies.{body_is_read}
+use Rattle.records.proofs.Alone.{body_is_read}
 use Rattle.records.proofs.theorems.body_is_read.Goals as goal
 
 pub returns-clause-theorem : goal.returns-clause-theorem

@@ -1,4 +1,4 @@
-use Rattle.records.proofs.Bodies.{record_is_read}
+use Rattle.records.proofs.Alone.{record_is_read}
 use Rattle.records.proofs.theorems.record_is_read.Goals as goal
 
 pub returns-clause-theorem : goal.returns-clause-theorem

@@ -1,3 +1,10 @@
+pub mod Book
+pub mod Calls
 pub mod Entries
+pub mod Lawful
+pub mod Printed
 pub mod Reading
+pub mod Refusals
+pub mod Report
+pub mod ReportLaws
 pub mod Taken

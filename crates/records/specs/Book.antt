@@ -1,5 +1,6 @@
 -- What stands in a catalogue: the bodies of signatures and of formats, by their ids.
-use Rattle.std.specs.Prelude.{ℕ, List, length, Some, None, Option}
+use Rattle.std.specs.Prelude.{ℕ, List, length, Some, None, Option, refl}
+use Rattle.std.specs.Coded.{Coded, code_by, coded×, coded_list, coded_ℕ}
 use Rattle.std.specs.FinMap as map
 use Rattle.std.specs.List.{filter_map, sum_by}
 use Rattle.std.specs.Option.{option_and_then}
@@ -13,6 +14,11 @@ use Rattle.records.specs.Reading.{signature_of, format_of}
 pub record Book : Type 0 where
   pub signatures : map.FinMap nat_cmp (List ℕ)
   pub formats : map.FinMap nat_cmp (List ℕ)
+
+-- a book is stored as its two maps
+abbrev pub book_code : Coded Book
+book_code =
+    code_by (map.FinMap nat_cmp (List ℕ) × map.FinMap nat_cmp (List ℕ)) (coded× (map.code coded_ℕ (coded_list coded_ℕ)) (map.code coded_ℕ (coded_list coded_ℕ))) (λ b. (b.signatures, b.formats)) (λ p. record { signatures = p.0; formats = p.1 }) (λ _. refl)
 
 -- nothing stands
 abbrev pub empty : Book

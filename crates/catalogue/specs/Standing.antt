@@ -1,5 +1,5 @@
 -- What the fields of a catalogue owe its book.
-use Rattle.std.specs.Prelude.{◌≡◌, ℕ, ◌+◌, Bool, List, [], ◌∷◌, map, length, Some, None, Option, Contains, ⊤, nat_lt, count_by}
+use Rattle.std.specs.Prelude.{◌≡◌, ℕ, ◌+◌, List, [], ◌∷◌, map, length, Some, None, Option, Contains, ⊤}
 use Rattle.std.proofs.Common.{T}
 use Rattle.std.specs.FinMap as map
 use Rattle.std.specs.FinMap.{is_sorted, FinMap}
@@ -8,6 +8,7 @@ use Rattle.std.specs.Ordering.{nat_cmp}
 use Rattle.kinds.specs.Alphabet.{Alphabet}
 use Rattle.engine.specs.Tables.{Slotted, StandsIn, free_slots}
 use Rattle.engine.specs.declared.fragment.Fragment.{Fragment}
+use Rattle.patterns.specs.Sequences.{Said}
 use Rattle.records.specs.Book as book
 use Rattle.records.specs.Book.{Book, said_by}
 use Rattle.records.specs.Entries.{Sequence, Signature}
@@ -33,9 +34,19 @@ abbrev pub book_in : {K : Type 0} → List (StandingSignature K) → List Standi
 book_in signatures formats =
     record { signatures = bodies (map signature_pair signatures); formats = bodies (map format_pair formats) }
 
+-- the slots of a sequence's fragments, if there is one
+abbrev pub slots_in : Option Slotted → List ℕ
+slots_in None = []
+slots_in (Some v) = v.slots
+
 -- the slots of a signature's fragments
 abbrev pub slots_of : {K : Type 0} → StandingSignature K → List ℕ
-slots_of e = flat_map (λ (v : Slotted). v.slots) e.sequences.items
+slots_of e = flat_map slots_in e.sequences.items
+
+-- what a sequence says, if there is one
+abbrev pub said_in : Option Slotted → Option Said
+said_in None = None
+said_in (Some v) = Some v.said
 
 -- the slots in use
 abbrev pub used : {K : Type 0} → List (StandingSignature K) → List ℕ
@@ -51,14 +62,19 @@ pub record Accounted (table : List (Option Fragment)) (slots : List ℕ) : Type 
   pub distinct : Distinct slots
   pub counted : length slots + length (free_slots table) ≡ 96
 
+-- a sequence, if there is one, stands in a table
+abbrev pub StandsInIf : List (Option Fragment) → Option Slotted → Type 0
+StandsInIf table None = ⊤
+StandsInIf table (Some v) = StandsIn table v
+
 -- A standing signature holds that of its body, and its sequences as they are compiled, with their fragments in the table.
 pub record SignatureHeld {E K : Type 0} (a : Alphabet E) (table : List (Option Fragment)) (e : StandingSignature K) : Type 0 where
   pub entry : Signature
   pub reads : book.signature_in e.body.items ≡ Some entry
   pub id : entry.id ≡ e.id
   pub specific : entry.specific ≡ e.specific
-  pub said : map (said_by a) entry.sequences ≡ map (λ (v : Slotted). Some v.said) e.sequences.items
-  pub stands : AllByRecursion (StandsIn table) e.sequences.items
+  pub said : map (said_by a) entry.sequences ≡ map said_in e.sequences.items
+  pub stands : AllByRecursion (StandsInIf table) e.sequences.items
 
 -- a standing format holds that of its body
 abbrev pub FormatHeld : StandingFormat → Type 0

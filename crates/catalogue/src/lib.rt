@@ -1,12 +1,6 @@
 //! The catalogue: what stands, and the calls on it.
 #![tactic(auto)]
 
-mod catalogue;
-mod formats;
-mod report;
 mod signatures;
 mod standing;
-
-pub use catalogue::Catalogue;
-pub use faults::{Cause, Fault, FaultLine};
-pub use records::{Hit, HitStatus, Status};
+mod formats;

@@ -6,8 +6,10 @@ use Rattle.faults.specs.declared.fault.Fault.{Fault}
 use Rattle.records.specs.Entries as entry
 use Rattle.records.specs.Entries.{printable, label_character}
 use Rattle.records.specs.Reading as reading
+use Rattle.records.specs.declared.format.Format.{Format}
+use Rattle.records.specs.declared.format.Label.{Label}
 use Rattle.records.specs.declared.rest.Characters.{Characters}
-use Rattle.records.specs.declared.rest.Characters.TheVariants.{Any, Printable, Label}
+use Rattle.records.specs.declared.rest.Characters.TheVariants.{Any, Printable, LowercaseOrDigit}
 use Rattle.records.specs.declared.rest.Rest.{Rest}
 use Rattle.records.specs.declared.signature.SequenceText.{SequenceText}
 use Rattle.records.specs.declared.signature.Signature.{Signature}
@@ -16,7 +18,7 @@ use Rattle.records.specs.declared.signature.Signature.{Signature}
 abbrev pub characters_in : Characters → ℕ → Bool
 characters_in Any c = true
 characters_in Printable c = printable c
-characters_in Label c = label_character c
+characters_in LowercaseOrDigit c = label_character c
 
 -- the bytes that are left
 abbrev pub rest_in : Rest → reading.Rest
@@ -42,3 +44,16 @@ sequences_in ss = map sequence_in ss
 -- a signature
 abbrev pub signature_in : Signature → entry.Signature
 signature_in s = record { id = s.id; specific = s.specific; sequences = sequences_in s.sequences.items }
+
+-- a label
+abbrev pub label_in : Label → List ℕ
+label_in l = l.characters.items
+
+-- labels
+abbrev pub labels_in : List Label → List (List ℕ)
+labels_in ls = map label_in ls
+
+-- a format
+abbrev pub format_in : Format → entry.Format
+format_in f =
+    record { id = f.id; name = f.name.items; signatures = f.signatures.items; outranked = f.outranked.items; labels = labels_in f.labels.items }

@@ -1,8 +1,11 @@
 //! The bytes of a record that are still to be read.
-ghost use Rattle.std.specs.Prelude.{◌≡◌, ◌+◌, ◌<◌, ◌^◌, length};
+ghost use Rattle.std.specs.Prelude.{◌≡◌, ◌==◌, ◌+◌, ◌<◌, ◌≤◌, ◌^◌, length, IfOk};
 ghost use Rattle.kinds.specs.Alphabet.{within};
 
 use faults::{Cause, Fault};
+
+// A body stands behind the length and the kind of its record.
+const BODY_PLACE: usize = 4;
 
 /// The bytes of a record from a place on.
 #[derive(Clone, Copy)]
@@ -19,10 +22,11 @@ pub(crate) enum Characters {
     // The printable characters of ASCII.
     Printable,
     // Small letters and digits.
-    Label,
+    LowercaseOrDigit,
 }
 
 impl Characters {
+    ghost use Rattle.std.specs.List.{list_all};
     ghost use Rattle.records.specs.Taken.{characters_in};
 
     // Whether a byte is one of them.
@@ -32,8 +36,15 @@ impl Characters {
         match self {
             Characters::Any => true,
             Characters::Printable => (0x20..=0x7E).contains(&c),
-            Characters::Label => c.is_ascii_lowercase() || c.is_ascii_digit(),
+            Characters::LowercaseOrDigit => c.is_ascii_lowercase() || c.is_ascii_digit(),
         }
+    }
+
+    // Whether each byte of a text is one of them.
+    fn make_up(self, text: &[u8]) -> bool
+        ensures { result ≡ list_all (characters_in self) text.now }
+    {
+        text.iter().all(|c| self.contain(*c))
     }
 }
 
@@ -43,11 +54,21 @@ impl<'r> Rest<'r> {
     ghost use Rattle.faults.specs.Faults.{outside};
     ghost use Rattle.faults.specs.declared.fault.Cause.TheVariants.{Field};
 
-    // A whole record.
-    pub(crate) fn of(bytes: &'r [u8]) -> Rest<'r>
-        ensures { rest_in result ≡ record { place = 0; bytes = bytes.now } }
+    // A whole body, which stands behind the first four bytes of its record.
+    pub(crate) fn of_body(body: &'r [u8]) -> Rest<'r>
+        ensures { rest_in result ≡ record { place = 4; bytes = body.now } }
     {
-        Rest { place: 0, bytes }
+        Rest {
+            place: BODY_PLACE,
+            bytes: body,
+        }
+    }
+
+    // Whether no byte is left.
+    pub(crate) fn is_empty(self) -> bool
+        ensures { result ≡ (length self.entry.bytes.now == 0) }
+    {
+        self.bytes.is_empty()
     }
 
     // The refusal of the field that begins here.
@@ -60,7 +81,8 @@ impl<'r> Rest<'r> {
     // So many bytes as one field.
     #[tactic(auto, unfolding(crate::specs::Reading::bytes_at))]
     pub(crate) fn bytes(self, len: usize) -> Result<(&'r [u8], Rest<'r>), Fault>
-        ensures { GivesRest (λ bytes. bytes.now) result (bytes_at len (rest_in self.entry)) }
+        ensures read { GivesRest (λ bytes. bytes.now) result (bytes_at len (rest_in self.entry)) }
+        ensures long { IfOk result (λ read. length read.0.now ≡ len) }
     {
         if self.bytes.len() < len {
             return Err(self.fault());
@@ -106,15 +128,16 @@ impl<'r> Rest<'r> {
         most: u8,
         characters: Characters,
     ) -> Result<(&'r [u8], Rest<'r>), Fault>
-        ensures { GivesRest (λ text. text.now) result
+        ensures read { GivesRest (λ text. text.now) result
             (text_at (within least most) (characters_in characters) (rest_in self.entry)) }
+        ensures short { IfOk result (λ read. length read.0.now ≤ most) }
     {
         let (len, behind_len) = self.byte()?;
         if !(least..=most).contains(&len) {
             return Err(self.fault());
         }
         let (text, rest) = behind_len.bytes(usize::from(len))?;
-        if !text.iter().all(|c| characters.contain(*c)) {
+        if !characters.make_up(text) {
             return Err(behind_len.fault());
         }
         Ok((text, rest))

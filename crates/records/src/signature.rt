@@ -108,3 +108,64 @@ fn sequence(rest: Rest<'_>) -> Result<(SequenceText<'_>, Rest<'_>), Fault>
     };
     Ok((SequenceText { reference, text }, rest))
 }
+
+// So many sequences.
+fn sequences(
+    count: u8,
+    mut rest: Rest<'_>,
+) -> Result<(ArrayVec<SequenceText<'_>, MOST_SEQUENCES>, Rest<'_>), Fault>
+    requires { count ≤ 4 }
+    ensures { GivesRest (λ sequences. sequences_in sequences.items) result
+        (sequences_at count (rest_in rest.entry)) }
+{
+    let mut sequences = ArrayVec::new();
+    for _ in 0..count {
+        let (sequence, behind) = sequence(rest)?;
+        sequences.push(sequence);
+        rest = behind;
+    }
+    Ok((sequences, rest))
+}
+
+// A signature, field by field.
+#[tactic(auto, unfolding(crate::specs::Reading::signature_at))]
+fn fields(rest: Rest<'_>) -> Result<(Signature<'_>, Rest<'_>), Fault>
+    ensures { GivesRest signature_in result (signature_at (rest_in rest.entry)) }
+{
+    let (id, rest) = rest.word()?;
+    let (specific, behind_specific) = rest.byte()?;
+    if specific > 1 {
+        return Err(rest.fault());
+    }
+    let (count, behind_count) = behind_specific.byte()?;
+    if !(1..=4).contains(&count) {
+        return Err(behind_specific.fault());
+    }
+    let (sequences, rest) = sequences(count, behind_count)?;
+    let specific = specific == 1;
+    Ok((
+        Signature {
+            id,
+            specific,
+            sequences,
+        },
+        rest,
+    ))
+}
+
+impl<'r> Signature<'r> {
+    /// The signature of a body. A fault counts from the beginning of its record, where the body
+    /// stands at 4: the place of the first field that is cut off or not allowed, or of the first
+    /// byte behind the last field.
+    #[tactic(auto, unfolding(crate::specs::Reading::signature_of))]
+    pub fn of_body(body: &'r [u8]) -> Result<Signature<'r>, Fault>
+        ensures { Gives signature_in result
+            (signature_of (record { place = 4; bytes = body.now })) }
+    {
+        let (signature, rest) = fields(Rest::of_body(body))?;
+        if !rest.is_empty() {
+            return Err(rest.fault());
+        }
+        Ok(signature)
+    }
+}

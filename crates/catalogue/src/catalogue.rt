@@ -1,0 +1,71 @@
+//! The catalogue and the calls on it.
+ghost use Rattle.std.specs.Prelude.{◌≡◌, IfOk, length};
+ghost use Rattle.records.specs.Book.{empty};
+ghost use Rattle.records.specs.Calls.{entered, entering, identified, identifying, showing, withdrawing_format, withdrawing_signature, withdrawn_format, withdrawn_signature, writing, wrote};
+ghost use Rattle.records.specs.Lawful.{Lawful};
+
+use crate::formats::StandingFormat;
+use crate::signatures::StandingSignature;
+use engine::Table;
+use kinds::Kind;
+use std::alloc::{AllocError, Global};
+use std::marker::{Model, PhantomData};
+
+/// A catalogue holds at most this many signatures.
+pub const MOST_SIGNATURES: usize = 24;
+
+/// A catalogue holds at most this many formats.
+pub const MOST_FORMATS: usize = 48;
+
+/// A reading has at most this many elements.
+pub const LONGEST_READING: u32 = 16_777_216;
+
+/// A catalogue of signatures and formats over elements of a kind.
+///
+/// In contracts it is its book: the bodies of the signatures and formats that stand, by their ids.
+#[derive(Drop)]
+pub struct Catalogue<K: Kind> {
+    signatures: Vec<StandingSignature<K>>,
+    formats: Vec<StandingFormat>,
+    table: Table,
+    kind: PhantomData<K>,
+}
+
+impl<K: Kind> Model for Catalogue<K> {
+    ghost use Rattle.std.specs.Prelude.{◌≤◌};
+    ghost use Rattle.std.specs.Vec.{vec_capacity};
+    ghost use Rattle.records.specs.Book.{Book, book_code};
+
+    ghost Value = { Book };
+
+    ghost coded = { book_code };
+
+    ghost use Rattle.catalogue.specs.Standing.{Holds, book_in};
+
+    ghost view = { λ c. book_in c.signatures.items c.formats.items };
+
+    ghost invariant = { λ c. Holds K.alphabet c.signatures.items c.formats.items c.table
+        × (24 ≤ vec_capacity c.signatures) × (48 ≤ vec_capacity c.formats) };
+}
+
+impl<K: Kind> Catalogue<K> {
+    /// An empty catalogue, or `AllocError` where there is no memory for all that it may hold. No
+    /// other call needs memory.
+    pub fn new(alloc: Global) -> Result<Catalogue<K>, AllocError>
+        ensures { IfOk result (λ c. c ≡ empty) }
+    {
+        Ok(Catalogue {
+            signatures: Vec::with_capacity(alloc, MOST_SIGNATURES)?,
+            formats: Vec::with_capacity(alloc, MOST_FORMATS)?,
+            table: Table::new(alloc)?,
+            kind: PhantomData,
+        })
+    }
+
+    /// How many signatures stand.
+    pub fn signature_count(&self) -> usize
+        ensures lawful { Lawful K.alphabet self.now }
+    {
+        self.signatures.len()
+    }
+}

@@ -2,6 +2,7 @@
 #![tactic(auto)]
 
 mod report;
+pub mod report_laws;
 mod rest;
 mod signature;
 

@@ -1,0 +1,4 @@
+pub mod Bodies
+pub mod Books
+pub mod Members
+pub mod Reports

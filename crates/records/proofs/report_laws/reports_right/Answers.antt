@@ -1,0 +1,6 @@
+use Rattle.records.proofs.Reports.{tentative_exactly}
+use Rattle.records.proofs.Bodies.{Ranked}
+use Rattle.records.proofs.report_laws.reports_right.Goals as goal
+
+pub returns-clause-theorem : goal.returns-clause-theorem
+returns-clause-theorem g c = ?

@@ -104,3 +104,36 @@ kind_taken kinds bytes x e =
     let kind = word_taken len.0.1 x (allowed_passes kinds len.0.1 (word_at len.0.1) x len.2).0 in
     let behind : Rest → Rest = λ r. record { place = r.place + 2; bytes = drop 2 r.bytes } in
     kind ∙ (ap behind head ∙ (λ i. record { place = 4; bytes = drop-drop 2 2 bytes i }))
+
+-- the signature of an entry that is read is that of its body
+entry_signature : (b : Bool) (r : Rest) (s : Signature) → entry_of b r ≡ Ok (signature s) → signature_of r ≡ Ok s
+entry_signature true r s e =
+    let one = after_first (signature_of r) _ (signature s) e in
+    let same : one.0 ≡ s = cc in
+    one.1 ∙ ap (λ z. Ok z) same
+entry_signature false r s e = let one = after_first (format_of r) _ (signature s) e in cc
+
+-- and the format
+entry_format : (b : Bool) (r : Rest) (f : Format) → entry_of b r ≡ Ok (format f) → format_of r ≡ Ok f
+entry_format true r f e = let one = after_first (signature_of r) _ (format f) e in cc
+entry_format false r f e =
+    let one = after_first (format_of r) _ (format f) e in
+    let same : one.0 ≡ f = cc in
+    one.1 ∙ ap (λ z. Ok z) same
+
+module _ {E : Type 0} (a : Alphabet E) (bytes : List ℕ) where
+  -- what a record enters is read from its body
+  entry_body : (e : Entry) → entry_at a bytes ≡ Ok e → (b : Bool) × (entry_of b (record { place = 4; bytes = drop 4 bytes }) ≡ Ok e)
+  unfolding entry_at
+  entry_body e is =
+      let kind = after_first (kind_at (λ k. eqb k a.signature_record || eqb k a.format_record) bytes) _ e is in
+      let behind = kind_taken _ bytes kind.0 kind.1 in
+      (eqb kind.0.0 a.signature_record, subst (λ r. entry_of (eqb kind.0.0 a.signature_record) r ≡ Ok e) behind kind.2)
+
+  -- a signature that a record enters is that of its body
+  pub signature_entered : (s : Signature) → entry_at a bytes ≡ Ok (signature s) → signature_in (drop 4 bytes) ≡ Some s
+  signature_entered s is = let read = entry_body (signature s) is in ap (λ z. result_ok z) (entry_signature read.0 _ s read.1)
+
+  -- a format that a record enters is that of its body
+  pub format_entered : (f : Format) → entry_at a bytes ≡ Ok (format f) → format_in (drop 4 bytes) ≡ Some f
+  format_entered f is = let read = entry_body (format f) is in ap (λ z. result_ok z) (entry_format read.0 _ f read.1)

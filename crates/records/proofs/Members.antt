@@ -1,8 +1,8 @@
 -- Members of lists: of a filter and a map, and what the tests of a list decide.
-use Rattle.std.proofs.Common.{◌≡◌, ℕ, zero, suc, ◌<◌, Bool, true, false, cond, ◌==◌, eqb, ◌⊎◌, ◌↔◌, List, [], ◌∷◌, map, length, Decides, sym, refl, ap, ◌∙◌, subst, inl, inr, ⊎_elim, arith}
+use Rattle.std.proofs.Common.{◌≡◌, ℕ, zero, suc, ◌<◌, Bool, true, false, cond, ◌==◌, eqb, ◌⊎◌, ◌↔◌, List, [], ◌∷◌, map, length, Some, None, Decides, Option, sym, refl, ap, ◌∙◌, subst, inl, inr, ⊎_elim, arith}
 use Rattle.std.proofs.lemmas.Bool.{false≢true}
 use Rattle.std.proofs.lemmas.Bool.Decides.{Decides-eqb, Decides-like, Decides-and, Decides-or}
-use Rattle.std.specs.List.{filter, list_any, list_all, AllByRecursion, Contains}
+use Rattle.std.specs.List.{filter, filter_map, cons_option, list_any, list_all, AllByRecursion, Contains}
 
 -- nothing is in the empty list
 pub contains_nil : {X : Type 0} (x : X) → Contains [] x → ⊥
@@ -42,6 +42,16 @@ contains_map f (x ∷ xs) y =
     let rest = contains_map f xs y in
     (λ h. ⊎_elim (λ is. (x, contains_here x xs, sym is)) (λ k. let l = rest.0 k in (l.0, contains_there x xs l.0 l.1, l.2)) (contains_cases (f x) (map f xs) y h),
     λ h. ⊎_elim (λ is. subst (λ z. Contains (f x ∷ map f xs) z) (ap f is ∙ sym h.2) (contains_here (f x) (map f xs))) (λ k. contains_there (f x) (map f xs) y (rest.1 (h.0, k, h.2))) (contains_cases x xs h.0 h.1))
+
+-- what is taken where there is something is what the function gives of an element
+pub contains_filter_map : {X Y : Type 0} (h : X → Option Y) (xs : List X) (y : Y) → Contains (filter_map h xs) y → (x : X) × Contains xs x × (h x ≡ Some y)
+contains_filter_map h [] y here = absurd (contains_nil y here)
+contains_filter_map {X} {Y} h (x ∷ xs) y here =
+    let later : Contains (filter_map h xs) y → (z : X) × Contains (x ∷ xs) z × (h z ≡ Some y) = λ k. let l = contains_filter_map h xs y k in (l.0, contains_there x xs l.0 l.1, l.2) in
+    elim (h x) as (λ (o : Option Y). h x ≡ o → Contains (cons_option o (filter_map h xs)) y → (z : X) × Contains (x ∷ xs) z × (h z ≡ Some y)) [
+      | Some w ↦ λ e k. ⊎_elim (λ is. (x, contains_here x xs, e ∙ ap (λ v. Some v) is)) later (contains_cases w (filter_map h xs) y k)
+      | None ↦ λ e k. later k
+    ] refl here
 
 -- what holds of each element holds of one
 pub holds_of : {X : Type 0} (P : X → Type 0) (xs : List X) (x : X) → AllByRecursion P xs → Contains xs x → P x

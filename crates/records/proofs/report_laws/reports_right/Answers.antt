@@ -1,4 +1,4 @@
-use Rattle.records.proofs.Reports.{tentative_exactly}
+use Rattle.records.proofs.Reports.{laws}
 use Rattle.records.proofs.Bodies.{Ranked}
 use Rattle.records.proofs.report_laws.reports_right.Goals as goal
 

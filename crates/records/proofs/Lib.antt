@@ -2,3 +2,4 @@ pub mod Bodies
 pub mod Books
 pub mod Members
 pub mod Reports
+pub mod Rises

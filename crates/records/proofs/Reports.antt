@@ -63,7 +63,7 @@ labelled_decides given f =
     (any_decides (equals_label given) (λ l. map folded given ≡ l) (λ l. same_decides (map folded given) l) f.labels)
 
 -- a report is the first of three where the first list has an element, the second where only the second list has one
-abbrev Chosen : List Format → List Format → Report → Report → Report → Report → Type 0
+abbrev pub Chosen : List Format → List Format → Report → Report → Report → Report → Type 0
 Chosen fs ts r first second third =
     ((f : Format) × Contains fs f × (r ≡ first)) ⊎ (((fs ≡ []) × ((f : Format) × Contains ts f) × (r ≡ second)) ⊎ ((fs ≡ []) × (ts ≡ []) × (r ≡ third)))
 
@@ -157,7 +157,7 @@ module _ {E : Type 0} (a : Alphabet E) (book : Book) (codes : List ℕ) where
       (most.0, ((formats_exactly most.0).0 most.1, free))
 
   -- the report is one of the three
-  answer : (label : List ℕ) → Chosen (formats_hitting a book codes) (tentative book label) (report a book codes label)
+  pub answer : (label : List ℕ) → Chosen (formats_hitting a book codes) (tentative book label) (report a book codes label)
       (record { status = Positive; hits = map (hit_of a book codes label) (unstruck a book codes) })
       (record { status = Tentative; hits = map tentative_of (tentative book label) })
       (record { status = Negative; hits = [] })

@@ -82,9 +82,9 @@ format_in_ranked body f e =
 bytes_taken : (n : ℕ) (r : Rest) (x : List ℕ × Rest) → bytes_at n r ≡ Ok x → x.1 ≡ record { place = r.place + n; bytes = drop n r.bytes }
 unfolding bytes_at
 bytes_taken n r x e = elim (ltb (length r.bytes) n) as (λ (b : Bool). ◌≡◌ {A = Read (List ℕ)} (cond b (Err r.place) (Ok (take n r.bytes, record { place = r.place + n; bytes = drop n r.bytes }))) (Ok x) → x.1 ≡ record { place = r.place + n; bytes = drop n r.bytes }) [
-      | true ↦ λ is. cc
-      | false ↦ λ is. let same : (take n r.bytes, record { place = r.place + n; bytes = drop n r.bytes }) ≡ x = cc in sym (ap (λ z. z.1) same)
-    ] e
+  | true ↦ λ is. cc
+  | false ↦ λ is. let same : (take n r.bytes, record { place = r.place + n; bytes = drop n r.bytes }) ≡ x = cc in sym (ap (λ z. z.1) same)
+] e
 
 -- so are the two of a field
 word_taken : (r : Rest) (x : ℕ × Rest) → word_at r ≡ Ok x → x.1 ≡ record { place = r.place + 2; bytes = drop 2 r.bytes }

@@ -27,21 +27,24 @@ contains_filter p [] x = (λ h. absurd (contains_nil x h), λ h. absurd (contain
 contains_filter {X} p (y ∷ ys) x =
     let rest = contains_filter p ys x in
     elim (p y) as (λ (b : Bool). p y ≡ b → Contains (cond b (y ∷ filter p ys) (filter p ys)) x ↔ (Contains (y ∷ ys) x × (p x ≡ true))) [
-      | true ↦ λ e.
-          (λ h. ⊎_elim (λ is. (subst (λ z. Contains (y ∷ ys) z) is (contains_here y ys), sym (ap p is) ∙ e)) (λ k. let l = rest.0 k in (contains_there y ys x l.0, l.1)) (contains_cases y (filter p ys) x h),
-          λ h. ⊎_elim (λ is. subst (λ z. Contains (y ∷ filter p ys) z) is (contains_here y (filter p ys))) (λ k. contains_there y (filter p ys) x (rest.1 (k, h.1))) (contains_cases y ys x h.0))
-      | false ↦ λ e.
-          (λ h. let l = rest.0 h in (contains_there y ys x l.0, l.1),
-          λ h. ⊎_elim (λ is. absurd (false≢true (sym e ∙ ap p is ∙ h.1))) (λ k. rest.1 (k, h.1)) (contains_cases y ys x h.0))
+      | true ↦ λ e. (
+        λ h. ⊎_elim (λ is. (subst (λ z. Contains (y ∷ ys) z) is (contains_here y ys), sym (ap p is) ∙ e)) (λ k. let l = rest.0 k in (contains_there y ys x l.0, l.1)) (contains_cases y (filter p ys) x h),
+        λ h. ⊎_elim (λ is. subst (λ z. Contains (y ∷ filter p ys) z) is (contains_here y (filter p ys))) (λ k. contains_there y (filter p ys) x (rest.1 (k, h.1))) (contains_cases y ys x h.0),
+      )
+      | false ↦ λ e. (
+        λ h. let l = rest.0 h in (contains_there y ys x l.0, l.1),
+        λ h. ⊎_elim (λ is. absurd (false≢true (sym e ∙ ap p is ∙ h.1))) (λ k. rest.1 (k, h.1)) (contains_cases y ys x h.0),
+      )
     ] refl
 
 -- a map has what its function gives of the elements
 pub contains_map : {X Y : Type 0} (f : X → Y) (xs : List X) (y : Y) → Contains (map f xs) y ↔ ((x : X) × Contains xs x × (y ≡ f x))
 contains_map f [] y = (λ h. absurd (contains_nil y h), λ h. absurd (contains_nil h.0 h.1))
 contains_map f (x ∷ xs) y =
-    let rest = contains_map f xs y in
-    (λ h. ⊎_elim (λ is. (x, contains_here x xs, sym is)) (λ k. let l = rest.0 k in (l.0, contains_there x xs l.0 l.1, l.2)) (contains_cases (f x) (map f xs) y h),
-    λ h. ⊎_elim (λ is. subst (λ z. Contains (f x ∷ map f xs) z) (ap f is ∙ sym h.2) (contains_here (f x) (map f xs))) (λ k. contains_there (f x) (map f xs) y (rest.1 (h.0, k, h.2))) (contains_cases x xs h.0 h.1))
+    let rest = contains_map f xs y in (
+      λ h. ⊎_elim (λ is. (x, contains_here x xs, sym is)) (λ k. let l = rest.0 k in (l.0, contains_there x xs l.0 l.1, l.2)) (contains_cases (f x) (map f xs) y h),
+      λ h. ⊎_elim (λ is. subst (λ z. Contains (f x ∷ map f xs) z) (ap f is ∙ sym h.2) (contains_here (f x) (map f xs))) (λ k. contains_there (f x) (map f xs) y (rest.1 (h.0, k, h.2))) (contains_cases x xs h.0 h.1),
+    )
 
 -- what is taken where there is something is what the function gives of an element
 pub contains_filter_map : {X Y : Type 0} (h : X → Option Y) (xs : List X) (y : Y) → Contains (filter_map h xs) y → (x : X) × Contains xs x × (h x ≡ Some y)

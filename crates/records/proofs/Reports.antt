@@ -43,10 +43,11 @@ greatest f [] =
 greatest f (e ∷ fs) =
     let most = greatest e fs in
     let h = greater f most.0 in
-    let inside = λ (x : Format). Contains (f ∷ e ∷ fs) x in
-    (h.0,
-    ⊎_elim (λ is. subst inside (sym is) (contains_here f (e ∷ fs))) (λ is. subst inside (sym is) (contains_there f (e ∷ fs) most.0 most.1)) h.1,
-    λ g k. ⊎_elim (λ is. let same : f.id ≡ g.id = ap (λ (x : Format). x.id) is in omega (arith, h.2)) (λ there. omega (arith, h.3, most.2 g there)) (contains_cases f (e ∷ fs) g k))
+    let inside = λ (x : Format). Contains (f ∷ e ∷ fs) x in (
+      h.0,
+      ⊎_elim (λ is. subst inside (sym is) (contains_here f (e ∷ fs))) (λ is. subst inside (sym is) (contains_there f (e ∷ fs) most.0 most.1)) h.1,
+      λ g k. ⊎_elim (λ is. let same : f.id ≡ g.id = ap (λ (x : Format). x.id) is in omega (arith, h.2)) (λ there. omega (arith, h.3, most.2 g there)) (contains_cases f (e ∷ fs) g k),
+    )
 
 -- the same of any list with a format in it
 greatest_in : (fs : List Format) (f : Format) → Contains fs f → (h : Format) × Contains fs h × ((g : Format) → Contains fs g → g.id ≤ h.id)
@@ -151,9 +152,9 @@ module _ {E : Type 0} (a : Alphabet E) (book : Book) (codes : List ℕ) where
   some_listed f hits =
       let most = greatest_in (formats_hitting a book codes) f ((formats_exactly f).1 hits) in
       let free : ¬ (Struck a book codes most.0) = λ struck.
-          let above = most.2 struck.0 ((formats_exactly struck.0).1 struck.1) in
-          let below = holds_of (λ id. id < struck.0.id) struck.0.outranked most.0.id (standing_ranked struck.0 struck.1.0) struck.2 in
-          omega arith in
+      let above = most.2 struck.0 ((formats_exactly struck.0).1 struck.1) in
+      let below = holds_of (λ id. id < struck.0.id) struck.0.outranked most.0.id (standing_ranked struck.0 struck.1.0) struck.2 in
+      omega arith in
       (most.0, ((formats_exactly most.0).0 most.1, free))
 
   -- the report is one of the three
@@ -171,9 +172,10 @@ module _ {E : Type 0} (a : Alphabet E) (book : Book) (codes : List ℕ) where
   listed_as : (hit : Format → Hit) (fs : List Format) (Is : Format → Type 0) → ((f : Format) → Contains fs f ↔ Is f)
       → (r : Report) → r.hits ≡ map hit fs → (h : Hit) → Contains r.hits h ↔ HitOf a book codes hit Is h
   listed_as hit fs Is exactly r is h =
-      let here = contains_map hit fs h in
-      (λ k. let l = here.0 (subst (λ hs. Contains hs h) is k) in (l.0, (exactly l.0).0 l.1, l.2),
-      λ k. subst (λ hs. Contains hs h) (sym is) (here.1 (k.0, (exactly k.0).1 k.1, k.2)))
+      let here = contains_map hit fs h in (
+        λ k. let l = here.0 (subst (λ hs. Contains hs h) is k) in (l.0, (exactly l.0).0 l.1, l.2),
+        λ k. subst (λ hs. Contains hs h) (sym is) (here.1 (k.0, (exactly k.0).1 k.1, k.2)),
+      )
 
   -- where the list is empty, no format hits
   no_hits : formats_hitting a book codes ≡ [] → ((f : Format) × FormatHits a book codes f) → ⊥
@@ -191,7 +193,8 @@ module _ {E : Type 0} (a : Alphabet E) (book : Book) (codes : List ℕ) where
           positive = (λ _. (f, (formats_exactly f).0 here), λ _. status);
           negative = (
             λ e. absurd (apart_statuses.1 (sym status ∙ e)),
-            λ none. absurd (not_empty (hit_of a book codes label) (unstruck a book codes) some.0 ((unstruck_exactly some.0).1 some.1) (sym hits ∙ none)));
+            λ none. absurd (not_empty (hit_of a book codes label) (unstruck a book codes) some.0 ((unstruck_exactly some.0).1 some.1) (sym hits ∙ none)),
+          );
           listed = λ _ h. listed_as (hit_of a book codes label) (unstruck a book codes) (Listed a book codes) unstruck_exactly (report a book codes label) hits h;
           specifically = λ f. specific_decides f;
           keyed = λ e. absurd (apart_statuses.0 (sym status ∙ e));
@@ -207,7 +210,8 @@ module _ {E : Type 0} (a : Alphabet E) (book : Book) (codes : List ℕ) where
           positive = (λ e. absurd (apart_statuses.0 (sym e ∙ status)), λ h. absurd (no_hits none h));
           negative = (
             λ e. absurd (apart_statuses.2 (sym status ∙ e)),
-            λ empty. absurd (not_empty tentative_of (tentative book label) f here (sym hits ∙ empty)));
+            λ empty. absurd (not_empty tentative_of (tentative book label) f here (sym hits ∙ empty)),
+          );
           listed = λ e. absurd (apart_statuses.0 (sym e ∙ status));
           specifically = λ f. specific_decides f;
           keyed = λ _ h. listed_as tentative_of (tentative book label) (Keyed a book codes label) (tentative_exactly label) (report a book codes label) hits h;

@@ -1,1 +1,6 @@
+pub mod Bodies
+pub mod Books
 pub mod Loops
+pub mod Members
+pub mod Reports
+pub mod Rises

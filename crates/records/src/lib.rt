@@ -2,17 +2,17 @@
 #![tactic(auto)]
 
 mod format;
-mod report;
 mod record;
+mod report;
+pub mod report_laws;
 mod rest;
 mod signature;
+#[cfg(test)]
+mod tests;
 
 pub use format::{
     Format, Label, MOST_IDS, MOST_LABEL_CHARACTERS, MOST_LABELS, MOST_NAME_CHARACTERS,
 };
-pub use report::{Hit, HitStatus, Status};
 pub use record::{Entry, Record, read};
+pub use report::{Hit, HitStatus, Status};
 pub use signature::{MOST_SEQUENCES, SequenceText, Signature};
-
-#[cfg(test)]
-mod tests;

@@ -1,5 +1,6 @@
 pub mod Bodies
 pub mod Books
+pub mod Keeping
 pub mod Members
 pub mod Reports
 pub mod Rises

@@ -2,10 +2,13 @@
 use Rattle.std.proofs.Common.{◌≡◌, ℕ, zero, suc, ◌+◌, ◌<◌, ◌≤◌, Bool, true, false, not, cond, ltb, T, ◌&&◌, ◌⊎◌, ◌↔◌, List, [], ◌∷◌, ◌++◌, map, length, take, drop, get_or, Some, None, Option, Ordering, Less, Equal, Greater, is_some, sym, refl, ap, ◌∙◌, subst, ⊎_elim, arith}
 use Rattle.std.proofs.lemmas.Cmp.{ranked, eq_by_cmp_equiv}
 use Rattle.std.proofs.lemmas.List.Sums.{sum_by-cons}
+use Rattle.std.proofs.lemmas.Bool.{lt-ltb, le-ltb}
+use Rattle.std.proofs.lemmas.List.Elements.{All-from_recursion, recursion_from_All, All-weaker}
+use Rattle.std.proofs.lemmas.Option.{none-some}
 use Rattle.std.specs.Cmp.{nat_cmp_is, nat_cmp_total}
 use Rattle.std.specs.FinMap as map
 use Rattle.std.specs.FinMap.Entries.{put, find, where_key, below_all, is_sorted, by_order, is_sorted-put, find-where_key, is_sorted-where_key}
-use Rattle.std.specs.List.{filter, filter_map, cons_option, insert, remove, sum_by, slice_get, AllByRecursion}
+use Rattle.std.specs.List.{filter, filter_map, cons_option, insert, remove, sum_by, count_by, slice_get, AllByRecursion}
 use Rattle.std.specs.Ordering.{nat_cmp, is_lt, is_eq, eq_by_cmp}
 
 -- both of two tests hold
@@ -80,6 +83,33 @@ module _ {X : Type 0} where
       let rest = place_found k es i (λ j d lt within. low (suc j) d (omega arith) (omega arith)) (λ j d le within. high (suc j) d (omega arith) (omega arith)) in
       record { before = (low zero e (omega arith) (omega arith), rest.before); behind = rest.behind }
 
+  -- no key above a key is below it
+  none_counted : (k : ℕ) (es : List (ℕ × X)) → AllByRecursion (λ e. k < e.0) es → count_by (λ e. ltb e.0 k) es ≡ 0
+  none_counted k [] above = refl
+  none_counted k (e ∷ es) above =
+      let rest = none_counted k es above.1 in
+      let first = le-ltb e.0 k (omega (arith, above.0)) in
+      sum_by-cons (λ (f : ℕ × X). cond (ltb f.0 k) 1 0) e es ∙ ap (λ b. cond b 1 0 + count_by (λ (f : ℕ × X). ltb f.0 k) es) first ∙ omega arith
+
+  -- the place of a new key is the number of the keys below it
+  pub place_counted : (k : ℕ) (es : List (ℕ × X)) → T (is_sorted nat_cmp es) → find nat_cmp k es ≡ None → IsPlace k es (count_by (λ e. ltb e.0 k) es)
+  place_counted k [] sorted none = record { before = tt; behind = tt }
+  place_counted k (e ∷ es) sorted none =
+      let parts = (sorted_parts e es).0 sorted in
+      let count = sum_by-cons (λ (f : ℕ × X). cond (ltb f.0 k) 1 0) e es in
+      elim (nat_cmp k e.0) as (λ (o : Ordering). nat_cmp k e.0 ≡ o → cond (is_eq o) (Some e.1) (find nat_cmp k es) ≡ None → IsPlace k (e ∷ es) (count_by (λ f. ltb f.0 k) (e ∷ es))) [
+        | Less ↦ λ o _.
+            let lt : k < e.0 = ranked k e.0 Less (sym o) in
+            let above : AllByRecursion (λ f. k < f.0) (e ∷ es) = (lt, recursion_from_All _ es (All-weaker (λ f. e.0 < f.0) (λ f. k < f.0) (λ f l. omega arith) es (All-from_recursion _ es parts.0))) in
+            subst (IsPlace k (e ∷ es)) (sym (none_counted k (e ∷ es) above)) (record { before = tt; behind = above })
+        | Equal ↦ λ o is. absurd (none-some e.1 (sym is))
+        | Greater ↦ λ o is.
+            let lt : e.0 < k = ranked k e.0 Greater (sym o) in
+            let rest = place_counted k es parts.1 is in
+            let all : count_by (λ f. ltb f.0 k) (e ∷ es) ≡ suc (count_by (λ f. ltb f.0 k) es) = count ∙ ap (λ b. cond b 1 0 + count_by (λ (f : ℕ × X). ltb f.0 k) es) (lt-ltb e.0 k lt) ∙ omega arith in
+            subst (IsPlace k (e ∷ es)) (sym all) (record { before = (lt, rest.before); behind = rest.behind })
+      ] refl none
+
   -- an entry goes in at the place of its key
   pub put_at : (k : ℕ) (v : X) (es : List (ℕ × X)) (i : ℕ) → IsPlace k es i → put nat_cmp k v es ≡ insert es i (k, v)
   put_at k v [] zero place = refl
@@ -103,6 +133,16 @@ module _ {X : Type 0} where
   others_kept k (e ∷ es) above =
       ap (λ (o : Ordering). cond (not (is_eq o)) (e ∷ without k es) (without k es)) (less k e.0 above.0)
       ∙ ap (λ fs. e ∷ fs) (others_kept k es above.1)
+
+  -- what holds of all entries, and of a new one, holds when it is put in
+  pub all_put : (P : ℕ × X → Type 0) (k : ℕ) (v : X) (es : List (ℕ × X)) → P (k, v) → AllByRecursion P es → AllByRecursion P (put nat_cmp k v es)
+  all_put P k v [] one all = (one, tt)
+  all_put P k v (e ∷ es) one all =
+      elim (nat_cmp k e.0) as (λ (o : Ordering). nat_cmp k e.0 ≡ o → AllByRecursion P (by_order o ((k, v) ∷ e ∷ es) ((e.0, v) ∷ es) (e ∷ put nat_cmp k v es))) [
+        | Less ↦ λ _. (one, all)
+        | Equal ↦ λ o. (subst (λ q. P (q, v)) (ranked k e.0 Equal (sym o)) one, all.1)
+        | Greater ↦ λ _. (all.0, all_put P k v es one all.1)
+      ] refl
 
   -- what holds of all entries holds of the one at a place
   holds_at : (P : ℕ × X → Type 0) (es : List (ℕ × X)) (i : ℕ) (e : ℕ × X) → AllByRecursion P es → slice_get es i ≡ Some e → P e

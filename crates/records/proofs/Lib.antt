@@ -1,6 +1,7 @@
 pub mod Bodies
 pub mod Books
 pub mod Loops
+pub mod Keeping
 pub mod Members
 pub mod Reports
 pub mod Rises

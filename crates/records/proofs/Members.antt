@@ -1,8 +1,9 @@
 -- Members of lists: of a filter and a map, and what the tests of a list decide.
 use Rattle.std.proofs.Common.{◌≡◌, ℕ, zero, suc, ◌<◌, Bool, true, false, cond, ◌==◌, eqb, ◌⊎◌, ◌↔◌, List, [], ◌∷◌, map, length, Some, None, Decides, Option, sym, refl, ap, ◌∙◌, subst, inl, inr, ⊎_elim, arith}
 use Rattle.std.proofs.lemmas.Bool.{false≢true}
+use Rattle.std.proofs.lemmas.Option.{none-some}
 use Rattle.std.proofs.lemmas.Bool.Decides.{Decides-eqb, Decides-like, Decides-and, Decides-or}
-use Rattle.std.specs.List.{filter, filter_map, cons_option, list_any, list_all, AllByRecursion, Contains}
+use Rattle.std.specs.List.{filter, filter_map, cons_option, find, list_any, list_all, AllByRecursion, Contains}
 
 -- nothing is in the empty list
 pub contains_nil : {X : Type 0} (x : X) → Contains [] x → ⊥
@@ -46,15 +47,27 @@ contains_map f (x ∷ xs) y =
       λ h. ⊎_elim (λ is. subst (λ z. Contains (f x ∷ map f xs) z) (ap f is ∙ sym h.2) (contains_here (f x) (map f xs))) (λ k. contains_there (f x) (map f xs) y (rest.1 (h.0, k, h.2))) (contains_cases x xs h.0 h.1),
     )
 
--- what is taken where there is something is what the function gives of an element
-pub contains_filter_map : {X Y : Type 0} (h : X → Option Y) (xs : List X) (y : Y) → Contains (filter_map h xs) y → (x : X) × Contains xs x × (h x ≡ Some y)
-contains_filter_map h [] y here = absurd (contains_nil y here)
-contains_filter_map {X} {Y} h (x ∷ xs) y here =
-    let later : Contains (filter_map h xs) y → (z : X) × Contains (x ∷ xs) z × (h z ≡ Some y) = λ k. let l = contains_filter_map h xs y k in (l.0, contains_there x xs l.0 l.1, l.2) in
-    elim (h x) as (λ (o : Option Y). h x ≡ o → Contains (cons_option o (filter_map h xs)) y → (z : X) × Contains (x ∷ xs) z × (h z ≡ Some y)) [
-      | Some w ↦ λ e k. ⊎_elim (λ is. (x, contains_here x xs, e ∙ ap (λ v. Some v) is)) later (contains_cases w (filter_map h xs) y k)
-      | None ↦ λ e k. later k
-    ] refl here
+-- two that are some are some of one
+some_inside : {X : Type 0} (x y : X) → Some x ≡ Some y → x ≡ y
+some_inside x y e = cc
+
+-- what a function gives of the elements, where it gives something
+pub contains_filter_map : {X Y : Type 0} (h : X → Option Y) (xs : List X) (y : Y) → Contains (filter_map h xs) y ↔ ((x : X) × Contains xs x × (h x ≡ Some y))
+contains_filter_map h [] y = (λ k. absurd (contains_nil y k), λ k. absurd (contains_nil k.0 k.1))
+contains_filter_map {X} {Y} h (x ∷ xs) y =
+    let rest = contains_filter_map h xs y in
+    let later : Contains (filter_map h xs) y → (z : X) × Contains (x ∷ xs) z × (h z ≡ Some y) = λ k. let l = rest.0 k in (l.0, contains_there x xs l.0 l.1, l.2) in
+    elim (h x) as (λ (o : Option Y). h x ≡ o → Contains (cons_option o (filter_map h xs)) y ↔ ((z : X) × Contains (x ∷ xs) z × (h z ≡ Some y))) [
+      | Some w ↦ λ e.
+          (λ k. ⊎_elim (λ is. (x, contains_here x xs, e ∙ ap (λ v. Some v) is)) later (contains_cases w (filter_map h xs) y k),
+          λ k. ⊎_elim
+          (λ is. let same : w ≡ y = some_inside w y (sym e ∙ ap h is ∙ k.2) in subst (λ z. Contains (w ∷ filter_map h xs) z) same (contains_here w (filter_map h xs)))
+          (λ l. contains_there w (filter_map h xs) y (rest.1 (k.0, l, k.2)))
+          (contains_cases x xs k.0 k.1))
+      | None ↦ λ e.
+          (later,
+          λ k. ⊎_elim (λ is. absurd (none-some y (sym e ∙ ap h is ∙ k.2))) (λ l. rest.1 (k.0, l, k.2)) (contains_cases x xs k.0 k.1))
+    ] refl
 
 -- what holds of each element holds of one
 pub holds_of : {X : Type 0} (P : X → Type 0) (xs : List X) (x : X) → AllByRecursion P xs → Contains xs x → P x
@@ -85,3 +98,19 @@ all_decides p P each (x ∷ xs) = Decides-and _ _ (each x) (all_decides p P each
 pub among_decides : (n : ℕ) (ns : List ℕ) → Decides (list_any (λ m. m == n) ns) (Contains ns n)
 among_decides n ns =
     Decides-like _ (λ h. subst (λ m. Contains ns m) h.2 h.1) (λ h. (n, h, refl)) (any_decides (λ m. m == n) (λ m. m ≡ n) (λ m. Decides-eqb m n) ns)
+
+-- a search finds nothing exactly where no element passes
+pub find_nothing : {X : Type 0} (p : X → Bool) (xs : List X) → (find p xs ≡ None) ↔ AllByRecursion (λ x. p x ≡ false) xs
+find_nothing p [] = (λ _. tt, λ _. refl)
+find_nothing {X} p (x ∷ xs) =
+    let rest = find_nothing p xs in
+    elim (p x) as (λ (b : Bool). (cond b (Some x) (find p xs) ≡ None) ↔ ((b ≡ false) × AllByRecursion (λ y. p y ≡ false) xs)) [
+      | true ↦ (λ e. cc, λ h. absurd (false≢true (sym h.0)))
+      | false ↦ (λ e. (refl, rest.0 e), λ h. rest.1 h.1)
+    ]
+
+-- a search that found nothing finds nothing by another test that passes no more of the elements
+pub find_nothing_more : {X : Type 0} (p q : X → Bool) (xs : List X) → ((x : X) → Contains xs x → p x ≡ false → q x ≡ false) → find p xs ≡ None → find q xs ≡ None
+find_nothing_more p q xs keeps none =
+    let each = (find_nothing p xs).0 none in
+    (find_nothing q xs).1 (holds_of_all (λ x. q x ≡ false) xs (λ x here. keeps x here (holds_of (λ y. p y ≡ false) xs x each here)))

@@ -145,7 +145,7 @@ module _ {E : Type 0} (a : Alphabet E) (book : Book) (codes : List ℕ) where
 
   -- formats that stand outrank only lower ids
   standing_ranked : (f : Format) → Contains (formats_of book) f → Ranked f
-  standing_ranked f here = let body = contains_filter_map format_in (map.values book.formats) f here in format_in_ranked body.0 f body.2
+  standing_ranked f here = let body = (contains_filter_map format_in (map.values book.formats) f).0 here in format_in_ranked body.0 f body.2
 
   -- of the formats that hit, the one with the greatest id is not struck
   pub some_listed : (f : Format) → FormatHits a book codes f → (g : Format) × Listed a book codes g

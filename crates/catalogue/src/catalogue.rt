@@ -1,13 +1,17 @@
 //! The catalogue and the calls on it.
 ghost use Rattle.std.specs.Prelude.{◌≡◌, IfOk, length};
 ghost use Rattle.records.specs.Book.{empty};
-ghost use Rattle.records.specs.Calls.{entered, entering, identified, identifying, showing, withdrawing_format, withdrawing_signature, withdrawn_format, withdrawn_signature, writing, wrote};
+ghost use Rattle.records.specs.Calls.{entered, entering, identified, identifying, showing};
+ghost use Rattle.records.specs.Calls.{withdrawing_format, withdrawing_signature};
+ghost use Rattle.records.specs.Calls.{withdrawn_format, withdrawn_signature, writing, wrote};
 ghost use Rattle.records.specs.Lawful.{Lawful};
 
 use crate::formats::StandingFormat;
-use crate::signatures::StandingSignature;
+use crate::signatures::{self, StandingSignature};
 use engine::Table;
-use kinds::Kind;
+use faults::{Cause, Fault};
+use kinds::{Kind, Reading};
+use records::{Entry, Hit, Status, read};
 use std::alloc::{AllocError, Global};
 use std::marker::{Model, PhantomData};
 
@@ -20,7 +24,7 @@ pub const MOST_FORMATS: usize = 48;
 /// A reading has at most this many elements.
 pub const LONGEST_READING: u32 = 16_777_216;
 
-/// A catalogue of signatures and formats over elements of a kind.
+/// A catalogue of signatures and formats over elements of a kind (docs/CATALOGUE.md).
 ///
 /// In contracts it is its book: the bodies of the signatures and formats that stand, by their ids.
 #[derive(Drop)]
@@ -49,8 +53,9 @@ impl<K: Kind> Model for Catalogue<K> {
 }
 
 impl<K: Kind> Catalogue<K> {
-    /// An empty catalogue, or `AllocError` where there is no memory for all that it may hold. No
-    /// other call needs memory.
+    /// An empty catalogue, or `AllocError` where there is no memory for all that it may hold, about
+    /// half a megabyte. That the memory is found when there is some is not proved. No other call
+    /// needs memory.
     pub fn new(alloc: Global) -> Result<Catalogue<K>, AllocError>
         ensures { IfOk result (λ c. c ≡ empty) }
     {
@@ -62,10 +67,26 @@ impl<K: Kind> Catalogue<K> {
         })
     }
 
-    /// How many signatures stand.
-    pub fn signature_count(&self) -> usize
+    /// Enters the signature or format of a record, and answers its id. A record that is refused
+    /// changes nothing.
+    pub fn enter(&mut self, bytes: &[u8]) -> Result<u16, Fault>
+        ensures answer { result ≡ entering K.alphabet self.old bytes.now }
+        ensures stands { self.new ≡ entered K.alphabet self.old bytes.now }
+    {
+        let body = &bytes[4..];
+        match read::<K>(bytes)? {
+            Entry::Signature(signature) => {
+                signatures::enter(&mut self.signatures, &mut self.table, &signature, body)
+            }
+            Entry::Format(_) => Err(Fault::outside(Cause::Taken, 0)),
+        }
+    }
+
+    /// Every catalogue is lawful: each body that stands can be entered again, what it names stands,
+    /// and the counts are within their bounds.
+    pub fn is_empty(&self) -> bool
         ensures lawful { Lawful K.alphabet self.now }
     {
-        self.signatures.len()
+        self.signatures.is_empty() && self.formats.is_empty()
     }
 }

@@ -16,14 +16,16 @@ both : (x y : Bool) → T (x && y) ↔ (T x × T y)
 both true y = (λ h. (tt, h), λ h. h.1)
 both false y = (λ h. absurd h, λ h. absurd h.0)
 
--- the order of two numbers, from what holds of them
-pub less : (x y : ℕ) → x < y → nat_cmp x y ≡ Less
+-- the order of two numbers, from what holds of them: the first is below the second
+less : (x y : ℕ) → x < y → nat_cmp x y ≡ Less
 less x y lt = sym (nat_cmp_is x y Less lt)
 
-pub more : (x y : ℕ) → y < x → nat_cmp x y ≡ Greater
+-- the second is below the first
+more : (x y : ℕ) → y < x → nat_cmp x y ≡ Greater
 more x y lt = sym (nat_cmp_is x y Greater lt)
 
-pub equal : (x y : ℕ) → x ≡ y → nat_cmp x y ≡ Equal
+-- they are the same
+equal : (x y : ℕ) → x ≡ y → nat_cmp x y ≡ Equal
 equal x y e = sym (nat_cmp_is x y Equal e)
 
 -- and what holds of them, where they are in order

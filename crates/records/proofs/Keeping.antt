@@ -2,6 +2,7 @@
 use Rattle.std.proofs.Common.{◌≡◌, ℕ, ◌+◌, ◌-◌, ◌<◌, ◌≤◌, Bool, true, false, not, cond, List, [], ◌∷◌, map, length, drop, Some, None, Ok, Err, Option, Result, Ordering, Less, Equal, Greater, is_some, sym, refl, ap, ◌∙◌, subst, arith}
 use Rattle.std.proofs.lemmas.Bool.{leb-false, ltb-false, not-false, not_from_true}
 use Rattle.std.proofs.lemmas.Cmp.{ranked}
+use Rattle.std.proofs.lemmas.List.{nil_from_length}
 use Rattle.std.proofs.lemmas.List.Elements.{All-from_recursion, recursion_from_All, All-drop, All-filter}
 use Rattle.std.specs.Cmp.{nat_cmp_total}
 use Rattle.std.specs.FinMap as map
@@ -50,11 +51,6 @@ after_keeps : (P : Book → Type 0) (refusal : Option Fault) (old new : Book) �
 after_keeps P None old new before then = then refl
 after_keeps P (Some f) old new before then = before
 
--- a list of no length is empty
-no_elements : {X : Type 0} (xs : List X) → length xs ≡ 0 → xs ≡ []
-no_elements [] e = refl
-no_elements (x ∷ xs) e = absurd (omega arith)
-
 -- Keys.
 
 -- a key stays when another is entered
@@ -79,7 +75,7 @@ len_more m k v new = map.len-insert nat_cmp_total m k v ∙ ap (λ b. cond b (ma
 
 -- a map of no length has no entries
 none_in : (m : map.FinMap nat_cmp (List ℕ)) → map.len m ≡ 0 → map.entries m ≡ []
-none_in m none = no_elements (map.entries m) (sym (map.len-entries m) ∙ none)
+none_in m none = nil_from_length (map.entries m) (sym (map.len-entries m) ∙ none)
 
 -- and that of a map without a key
 len_less : (m : map.FinMap nat_cmp (List ℕ)) (k : ℕ) → map.len (map.remove m k) ≤ map.len m

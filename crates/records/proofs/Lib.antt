@@ -1,5 +1,6 @@
 pub mod Bodies
 pub mod Books
+pub mod Examples
 pub mod Loops
 pub mod Keeping
 pub mod Members

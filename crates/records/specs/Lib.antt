@@ -1,6 +1,7 @@
 pub mod Book
 pub mod Calls
 pub mod Entries
+pub mod Examples
 pub mod Lawful
 pub mod Printed
 pub mod Reading

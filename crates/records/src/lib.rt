@@ -9,6 +9,7 @@ mod rest;
 mod signature;
 #[cfg(test)]
 mod tests;
+pub mod theorems;
 
 pub use format::{
     Format, Label, MOST_IDS, MOST_LABEL_CHARACTERS, MOST_LABELS, MOST_NAME_CHARACTERS,

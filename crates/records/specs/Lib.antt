@@ -3,6 +3,7 @@ pub mod Calls
 pub mod Entries
 pub mod Examples
 pub mod Lawful
+pub mod Laws
 pub mod Printed
 pub mod Reading
 pub mod Refusals

@@ -4,7 +4,6 @@
 mod format;
 mod record;
 mod report;
-pub mod report_laws;
 mod rest;
 mod signature;
 #[cfg(test)]

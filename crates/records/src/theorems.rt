@@ -2,7 +2,9 @@
 //! proof.
 ghost use Rattle.std.specs.Prelude.{◌≡◌, true};
 ghost use Rattle.records.specs.Examples.{Examples};
+ghost use Rattle.records.specs.Lawful.{BooksStayLawful};
 ghost use Rattle.records.specs.Laws.{FirstFault, ReadIsSpelled, SpelledApart, SpelledIsRead};
+ghost use Rattle.records.specs.ReportLaws.{ReportsRight};
 
 use kinds::Kind;
 
@@ -42,6 +44,23 @@ pub fn first_fault<K: Kind>() -> bool
 pub fn examples() -> bool
     ensures answer { result ≡ true }
     ensures theorem { Examples }
+{
+    true
+}
+
+/// Each report says what its reading and its label say by the rules, and its ids rise where the
+/// book is lawful.
+pub fn reports_right<K: Kind>() -> bool
+    ensures answer { result ≡ true }
+    ensures theorem { ReportsRight K.alphabet }
+{
+    true
+}
+
+/// The empty book is lawful, and entering and withdrawing keep a book lawful.
+pub fn books_stay_lawful<K: Kind>() -> bool
+    ensures answer { result ≡ true }
+    ensures theorem { BooksStayLawful K.alphabet }
 {
     true
 }

@@ -4,12 +4,10 @@ pub mod Compiling
 pub mod Extents
 pub mod Finding
 pub mod Lent
-pub mod Meanings
 pub mod Openings
 pub mod Parts
 pub mod Reaching
 pub mod Reading
-pub mod Scanning
 pub mod Said
 pub mod Searched
 pub mod Sequences
@@ -17,5 +15,4 @@ pub mod Smaller
 pub mod Stored
 pub mod Tables
 pub mod Tallies
-pub mod Tokens
 pub mod Turned

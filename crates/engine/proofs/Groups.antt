@@ -1,92 +1,17 @@
 -- How the runs of a group are put into a pattern, one after the other.
-use Rattle.std.proofs.Common.{◌≡◌, ℕ, suc, ◌+◌, ◌*◌, ◌≤◌, Bool, true, false, cond, not, eqb, ltb, List, [], ◌∷◌, ◌++◌, map, length, drop, Some, None, Option, sym, refl, ap, ◌∙◌, subst, append_assoc, arith, length-append}
-use Rattle.std.proofs.lemmas.Bool.{ltb-true, lt-ltb, both_ways, le-ltb, ltb-false}
+use Rattle.std.proofs.Common.{◌≡◌, ℕ, ◌+◌, ◌*◌, ◌≤◌, true, List, [], ◌∷◌, ◌++◌, map, length, drop, ap, ◌∙◌, subst, append_assoc, arith, length-append}
 use Rattle.std.proofs.lemmas.List.{map-append, length_push}
-use Rattle.std.proofs.lemmas.List.Splits.{slice_split_first}
-use Rattle.std.specs.List.{onto_first, position_or_len}
-use Rattle.std.specs.Option.{option_map}
 use Rattle.kinds.specs.Alphabet.{Alphabet}
-use Rattle.engine.specs.Meanings.{literals_at}
+use Rattle.lexer.specs.Tokens.{codes_in}
+use Rattle.lexer.proofs.Lexing.{codes_length}
+use Rattle.lexer.proofs.TokenRuns.{total}
+use Rattle.lexer.proofs.Tokens.{drop_front, pairs_fit}
 use Rattle.engine.specs.Parts.{run_in, RunPushed}
 use Rattle.engine.specs.Reading.{held}
 use Rattle.engine.specs.Stored.{run_codes, all_runs_within}
-use Rattle.engine.specs.Tokens.{Slice, range, other, written, between_bars, codes_in, first_to, first_run, run_slice, runs_slice}
 use Rattle.engine.specs.declared.pattern.Pattern.{Pattern}
 use Rattle.engine.specs.declared.pattern.Run.{Run}
-use Rattle.engine.specs.declared.token.RunText.{RunText}
-use Rattle.engine.specs.declared.token.RunsText.{RunsText}
 use Rattle.engine.proofs.Growth.{runs_codes_more, runs_within_drop}
-use Rattle.engine.proofs.Lexing.{codes_length}
-use Rattle.engine.proofs.Tokens.{drop_front, pairs_fit}
-
--- the lengths of texts, together
-abbrev pub total : List (List ℕ) → ℕ
-total [] = 0
-total (t ∷ ts) = length t + total ts
-
--- one character more in the first of some texts
-total_onto : (c : ℕ) (ts : List (List ℕ)) → total (onto_first c ts) ≤ suc (total ts)
-total_onto c [] = omega arith
-total_onto c (t ∷ ts) = omega arith
-
--- the texts between bars are no longer than the text
-pub total_bars : (t : List ℕ) → total (between_bars t) ≤ length t
-total_bars [] = omega arith
-total_bars (c ∷ t) = go (eqb c 124) (total_bars t) (total_onto c (between_bars t))
-  where
-    go : (b : Bool) → total (between_bars t) ≤ length t → total (onto_first c (between_bars t)) ≤ suc (total (between_bars t)) → total (cond b ([] ∷ between_bars t) (onto_first c (between_bars t))) ≤ length (c ∷ t)
-    go true h k = omega arith
-    go false h k = omega arith
-
--- a text with no bar is one text
-no_bar : (t : List ℕ) → ltb (position_or_len (λ c. eqb c 124) t) (length t) ≡ false → between_bars t ≡ t ∷ []
-no_bar [] h = refl
-no_bar (c ∷ t) h = go (eqb c 124) (no_bar t) h
-  where
-    go : (b : Bool) → (ltb (position_or_len (λ c. eqb c 124) t) (length t) ≡ false → between_bars t ≡ t ∷ [])
-        → ltb (cond (not b) (1 + position_or_len (λ c. eqb c 124) t) 0) (length (c ∷ t)) ≡ false
-        → cond b ([] ∷ between_bars t) (onto_first c (between_bars t)) ≡ (c ∷ t) ∷ []
-    go true ih h = absurd (both_ways (ltb 0 (length (c ∷ t))) h (lt-ltb 0 (length (c ∷ t)) (omega arith)))
-    go false ih h =
-        let shorter : ltb (position_or_len (λ c. eqb c 124) t) (length t) ≡ false = le-ltb (position_or_len (λ c. eqb c 124) t) (length t) (omega (arith, ltb-false (1 + position_or_len (λ c. eqb c 124) t) (length (c ∷ t)) h)) in
-        ap (onto_first c) (ih shorter)
-
--- a range is longer than its runs
-pub range_written : (inside : Bool) (low high : Slice) → length low.text + length high.text ≤ length (written (range inside low high))
-range_written true low high = simp length-append (omega arith)
-range_written false low high = simp length-append (omega arith)
-
--- what one run leaves out is longer than the run
-pub other_written : (run : Slice) → length run.text ≤ length (written (other run))
-other_written run = simp length-append (omega arith)
-
--- literals are as many items as codes
-pub literals_many : (place : ℕ) (cs : List ℕ) → length (literals_at place cs) ≡ length cs
-literals_many place [] = refl
-literals_many place (c ∷ cs) = ap suc (literals_many (place + 2) cs)
-
--- the texts of the runs that are left
-abbrev pub left_slices : Option Slice → List (List ℕ)
-left_slices None = []
-left_slices (Some s) = between_bars s.text
-
-abbrev pub left_of : Option RunsText → List (List ℕ)
-left_of rest = left_slices (option_map runs_slice rest)
-
--- the first run of a group and those that are left
-pub bars_split : (s : Slice) → between_bars s.text ≡ (first_run s).0.text ∷ left_slices (first_run s).1
-bars_split s = go (ltb (position_or_len (λ c. eqb c 124) s.text) (length s.text)) refl
-  where
-    go : (b : Bool) → ltb (position_or_len (λ c. eqb c 124) s.text) (length s.text) ≡ b
-        → between_bars s.text ≡ (first_to s (cond b (Some (position_or_len (λ c. eqb c 124) s.text)) None)).0.text ∷ left_slices (first_to s (cond b (Some (position_or_len (λ c. eqb c 124) s.text)) None)).1
-    go true h = slice_split_first (λ c. eqb c 124) s.text 0 (ltb-true _ _ h)
-    go false h = no_bar s.text h
-
--- the same of what the code answers
-pub split_left : (runs : RunsText) (r : RunText × Option RunsText) → ◌≡◌ {A = Slice × Option Slice} (run_slice r.0, option_map runs_slice r.1) (first_run (runs_slice runs)) → left_of (Some runs) ≡ r.0.text.now ∷ left_of r.1
-split_left runs r e =
-    let parts : Slice × Option Slice → List (List ℕ) = λ x. x.0.text ∷ left_slices x.1 in
-    bars_split (runs_slice runs) ∙ ap parts (sym e)
 
 module _ {E : Type 0} (a : Alphabet E) where
   -- The first runs of a group are put into a pattern, and others are left.

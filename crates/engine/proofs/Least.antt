@@ -5,7 +5,7 @@ use Rattle.patterns.specs.Fragments as spec
 use Rattle.patterns.specs.Fragments.{Anchor, anchor, bodies}
 use Rattle.patterns.specs.Patterns.{AtMost}
 use Rattle.patterns.specs.Search.{first_fit, least_end, stands_at}
-use Rattle.patterns.specs.Spans.{Anchored, NoLess}
+use Rattle.patterns.specs.Spans.{Anchored, NoLess, sum_span}
 use Rattle.patterns.proofs.Anchors.{BestBefore, FirstFit, first_fit_exactly, anchor_splits, stands_decides, spans_at_most, best_none, best_on, best_kept, best_more, best_all, best_least}
 use Rattle.patterns.proofs.Searches.{least_end_is}
 use Rattle.engine.specs.Codes.{not_past, ShiftsOf}
@@ -26,10 +26,10 @@ pub record Best (a : Anchor) (starts : Starts) (xs : List ℕ) (place last : ℕ
   pub before : BestBefore a.front a.codes a.back starts.from starts.until xs place best
   pub beyond : (q e : ℕ) → last < q → Anchored a.front a.codes a.back starts.from starts.until xs q e → NoLess best e
 
--- no anchor of a placement stands past the last place
-pub last_far : (until : Option ℕ) (start place : ℕ) → AtMost until start → place < start + 1024 → place ≤ 4294967295 → place ≤ last_place_of until
-last_far None start place early near inside = inside
-last_far (Some most) start place early near inside = omega arith
+-- no place that is near enough behind a start is past the last place
+last_far : (until : Option ℕ) (far start place : ℕ) → AtMost until start → place ≤ start + far → place ≤ 4294967295 → place ≤ last_place_of until far
+last_far None far start place early near inside = inside
+last_far (Some most) far start place early near inside = omega arith
 
 -- past the last useful place, an anchor gives no smaller end
 pub useful_far : (last : ℕ) (best : Option ℕ) (len place : ℕ) → last_useful_of last best len < place → (last < place) ⊎ NoLess best (place + len)
@@ -95,30 +95,36 @@ module _ (sequence : Oriented) (f : Fragment) (g : spec.Fragment) (s : Searches 
   pub bounds_of : (count : ℕ) → length (held sequence.pattern) ≡ count → Bounds count f
   bounds_of count e = record { before = s.holds.ordered.0; behind = s.holds.ordered.1; inside = omega (arith, s.holds.ordered.2) }
 
-  -- what stands before the anchor spans less than a row
-  before_near : (q e : ℕ) → Anchored a.front a.codes a.back starts.from starts.until xs q e → (start : ℕ) × AtMost starts.until start × (q < start + 1024) × (q ≤ length xs)
-  before_near q e x =
-      let start = x.before in
-      let near = spans_at_most a.front xs start.begins q sides.small.front_bounded start.spans in
-      let inside = ((stands_decides a.codes xs q).0 x.stands).0 in
-      (start.begins, start.early, omega (arith, sides.small.short, s.coded, start.spans.ordered), omega arith)
+  -- what stands before the anchor is short
+  front_short : sum_span a.front < 1024
+  front_short = omega (arith, sides.small.short, s.coded)
 
-  -- where the literal that the fragment begins with does not stand near enough before a place, nothing ends through an anchor there
-  pub none_through : (o : Opening) (p : ℕ) → OpeningOf (part_of (held sequence.pattern) f.first f.anchor) o → Excluded o xs p → LeastThrough a starts xs p None
-  none_through o p opening =
-      let front = front_is sequence.reference (held sequence.pattern) (held sequence.mirror) f g s in
-      through_excluded a starts xs p o (subst (λ is. OpeningOf is o) (sym front) opening) sides.small.front_bounded (omega (arith, sides.small.short, s.coded))
+  module _ (o : Opening) (opening : OpeningOf (part_of (held sequence.pattern) f.first f.anchor) o) where
+    -- the opening is that of what stands before the anchor
+    opens_front : OpeningOf a.front o
+    opens_front = subst (λ is. OpeningOf is o) (sym (front_is sequence.reference (held sequence.pattern) (held sequence.mirror) f g s)) opening
 
-  -- no place before the first one, and none past the last
-  pub best_begins : (place last : ℕ) → place ≡ starts.from + f.lead → length xs ≤ 4294967295
-      → ((start p : ℕ) → AtMost starts.until start → p < start + 1024 → p ≤ 4294967295 → p ≤ last) → Best a starts xs place last None
-  best_begins place last e few far =
-      record {
-        before = best_none a.front a.codes a.back starts.from starts.until xs place (omega (arith, s.holds.leads));
-        beyond = λ q end past x.
-            let (start, early, near, inside) = before_near q end x in
-            omega (arith, far start q early near (omega arith));
-      }
+    -- where the literal that the fragment begins with does not stand near enough before a place, nothing ends through an anchor there
+    pub none_through : (p : ℕ) → Excluded o xs p → LeastThrough a starts xs p None
+    none_through p = through_excluded a starts xs p o opens_front sides.small.front_bounded front_short
+
+    -- an anchor stands no further behind its start than the opening is far
+    before_near : (q e : ℕ) → Anchored a.front a.codes a.back starts.from starts.until xs q e → (start : ℕ) × AtMost starts.until start × (q ≤ start + o.far) × (q ≤ length xs)
+    before_near q e x =
+        let start = x.before in
+        let near = spans_at_most a.front xs start.begins q sides.small.front_bounded start.spans in
+        let inside = ((stands_decides a.codes xs q).0 x.stands).0 in
+        (start.begins, start.early, omega (arith, front_short, opens_front.far, start.spans.ordered), omega arith)
+
+    -- no place before the first one, and none past the last
+    pub best_begins : (place last : ℕ) → place ≡ starts.from + f.lead → last ≡ last_place_of starts.until o.far → length xs ≤ 4294967295 → Best a starts xs place last None
+    best_begins place last e is few =
+        record {
+          before = best_none a.front a.codes a.back starts.from starts.until xs place (omega (arith, s.holds.leads));
+          beyond = λ q end past x.
+              let (start, early, near, inside) = before_near q end x in
+              omega (arith, last_far starts.until o.far start q early near (omega arith));
+        }
 
   -- where there is no first place, there is no placement
   pub none_begins : length xs ≤ 4294967295 → 4294967295 < starts.from + f.lead → None ≡ least_end (bodies g.body) starts.from starts.until xs

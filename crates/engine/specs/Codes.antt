@@ -1,6 +1,5 @@
 -- The codes of a reading's elements, the table of an anchor's shifts, and the places that are looked at.
-use Rattle.std.specs.Prelude.{◌≡◌, ℕ, ◌<◌, if◌then◌else◌, List, map, Some, None, Option, nat_le, slice_index}
-use Rattle.kinds.specs.Alphabet.{Alphabet}
+use Rattle.std.specs.Prelude.{◌≡◌, ℕ, ◌<◌, if◌then◌else◌, List, Some, None, Option, nat_le, slice_index}
 use Rattle.patterns.specs.Fragments.{shift}
 
 -- a table has the shift of each index of an anchor

@@ -46,10 +46,11 @@ LeastThrough a starts xs p None = (e : ℕ) → Anchored a.front a.codes a.back 
 LeastThrough a starts xs p (Some b) =
     Anchored a.front a.codes a.back starts.from starts.until xs p b × ((e : ℕ) → Spans a.back xs (p + length a.codes) e → b ≤ e)
 
--- no anchor of a placement stands past this place: it is 1,024 places past the last start, as far as a reading reaches
-abbrev pub last_place_of : Option ℕ → ℕ
-last_place_of None = 4294967295
-last_place_of (Some most) = min (most + 1024) 4294967295
+-- no anchor of a placement that has at most `far` elements before it stands past this place: it is as many places past the last start,
+-- as far as a reading reaches
+abbrev pub last_place_of : Option ℕ → ℕ → ℕ
+last_place_of None far = 4294967295
+last_place_of (Some most) far = min (most + far) 4294967295
 
 -- the last of the places up to one where an anchor of a length can give a smaller end than the best one
 abbrev pub last_useful_of : ℕ → Option ℕ → ℕ → ℕ

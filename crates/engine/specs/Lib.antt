@@ -1,16 +1,13 @@
 pub mod Codes
 pub mod Compiled
 pub mod Compiling
-pub mod Examples
 pub mod Extents
 pub mod Finding
 pub mod Lent
-pub mod Meanings
 pub mod Openings
 pub mod Parts
 pub mod Reaching
 pub mod Reading
-pub mod Scanning
 pub mod Said
 pub mod Searched
 pub mod Sequences
@@ -18,5 +15,4 @@ pub mod Smaller
 pub mod Stored
 pub mod Tables
 pub mod Tallies
-pub mod Tokens
 pub mod Turned

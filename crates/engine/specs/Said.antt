@@ -6,7 +6,6 @@ use Rattle.patterns.specs.Fragments.{bodies, fragments, oriented}
 use Rattle.patterns.specs.Patterns.{least_offset}
 use Rattle.patterns.specs.Search.{least_end}
 use Rattle.patterns.specs.Sequences.{Said}
-use Rattle.patterns.specs.declared.reference.Reference.{Reference}
 use Rattle.engine.specs.Compiled.{Hold}
 use Rattle.engine.specs.Reading.{held}
 use Rattle.engine.specs.Searched.{HoldsEach, Searched}

@@ -102,9 +102,9 @@ pub(crate) fn least_end<R: Reading>(
     }
     let codes = fragment.codes.as_slice();
     let mut place = starts.first_place(fragment.lead)?;
-    let mut last = starts.last_place();
-    let mut best = None;
     let mut opening = Opening::of(&sequence.pattern, fragment);
+    let mut last = starts.last_place(opening.far);
+    let mut best = None;
     // No `for`: where the anchor is looked for next is known only once the best end so far is.
     while let Some(fit) = next_fit_up_to(reading, codes, &fragment.shifts, place, last) {
         if !opening.excludes(reading, fit) {

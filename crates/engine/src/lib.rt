@@ -4,7 +4,6 @@
 mod find;
 mod fragment;
 mod lent;
-mod lexer;
 mod limits;
 mod mirror;
 mod opening;
@@ -19,12 +18,10 @@ mod smaller;
 mod starts;
 mod table;
 pub mod theorems;
-mod token;
 
 pub use faults::{Cause, Fault, FaultLine};
 pub use fragment::{Fragment, INDICES};
-pub use lexer::{Lexer, Position, Stop};
+pub use lexer::{Gap, Lexer, Position, RunText, RunsText, Stop, Token};
 pub use patterns::{PatternText, Reference, TooLong};
 pub use sequence::Sequence;
 pub use table::{InTable, SLOTS, Table};
-pub use token::{Gap, RunText, RunsText, Token};

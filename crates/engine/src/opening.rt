@@ -61,7 +61,7 @@ fn last_place_of<R: Reading>(code: u16, reading: &R, from: u32, to: u32) -> Opti
 pub(crate) struct Opening {
     code: Option<u16>,
     // How far before its anchor the fragment can begin.
-    far: u32,
+    pub(crate) far: u32,
     // The literal stands right before `after`, if that is not 0, and at none of the places from
     // there to before `next` that are at most `far` before `next`.
     after: u32,

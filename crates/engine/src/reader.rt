@@ -1,16 +1,15 @@
 //! Reads a pattern text into its items.
 ghost use Rattle.std.specs.Prelude.{◌≡◌, ◌+◌, ◌*◌, ◌<◌, ◌≤◌, ◌++◌, length};
-ghost use Rattle.engine.specs.Meanings.{items_at, literals_at, runs_in, run_count};
+ghost use Rattle.lexer.specs.Meanings.{items_at, literals_at, runs_in, run_count};
 ghost use Rattle.engine.specs.Parts.{run_in, item_in, HasPart, HasRun, PartPushed};
 ghost use Rattle.engine.specs.Reading.{held, Read};
-ghost use Rattle.engine.specs.Tokens.{between_bars, codes_in, lexeme_in, pairs, written};
+ghost use Rattle.lexer.specs.Tokens.{between_bars, codes_in, lexeme_in, pairs, written};
 ghost use Rattle.patterns.specs.Patterns as item;
 
-use crate::lexer::{Cursor, Lexer, Stop};
 use crate::pattern::{Part, Pattern, PlacedPart, Run};
-use crate::token::{Gap, RunsText, Token};
 use faults::{Cause, Fault};
 use kinds::Kind;
+use lexer::{Cursor, Gap, Lexer, RunsText, Stop, Token};
 use patterns::{Direction, PatternText};
 
 // Puts the items of tokens behind those of a pattern. A text has at most 200 characters, two for
@@ -71,7 +70,7 @@ impl Pattern {
         let mut next = Cursor::new(run);
         while let Some((element, later)) = next.pair::<K>() {
             let part = Part::Literal(element.code());
-            self.push_at(place + next.place, part);
+            self.push_at(place + next.place(), part);
             next = later;
         }
     }

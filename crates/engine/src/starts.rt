@@ -2,7 +2,6 @@
 ghost use Rattle.std.specs.Prelude.{◌≡◌, ◌+◌, ◌<◌, ◌↔◌, IsTrue, MatchOption, Some};
 ghost use Rattle.engine.specs.Finding.{last_place_of, Start};
 
-use crate::limits::LONGEST_SPAN;
 use rows::Row;
 
 // The places from one on and, where there is a bound, not past it.
@@ -39,12 +38,13 @@ impl Starts {
         place_behind(self.from, u64::from(lead))
     }
 
-    // The last place where the anchor of a placement can stand in a reading.
-    pub(crate) fn last_place(self) -> u32
-        ensures { result ≡ last_place_of self.until }
+    // The last place where the anchor of a placement can stand in a reading, at most `far` elements
+    // behind its start.
+    pub(crate) fn last_place(self, far: u32) -> u32
+        ensures { result ≡ last_place_of self.until far }
     {
         self.until.map_or(u32::MAX, |until| {
-            u32::try_from(until.saturating_add(u64::from(LONGEST_SPAN))).unwrap_or(u32::MAX)
+            u32::try_from(until.saturating_add(u64::from(far))).unwrap_or(u32::MAX)
         })
     }
 

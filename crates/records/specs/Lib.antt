@@ -1,4 +1,12 @@
+pub mod Book
+pub mod Calls
 pub mod Entries
+pub mod Examples
+pub mod Lawful
 pub mod Laws
+pub mod Printed
 pub mod Reading
+pub mod Refusals
+pub mod Report
+pub mod ReportLaws
 pub mod Taken

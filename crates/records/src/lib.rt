@@ -3,15 +3,16 @@
 
 mod format;
 mod record;
+mod report;
 mod rest;
 mod signature;
+#[cfg(test)]
+mod tests;
 pub mod theorems;
 
 pub use format::{
     Format, Label, MOST_IDS, MOST_LABEL_CHARACTERS, MOST_LABELS, MOST_NAME_CHARACTERS,
 };
 pub use record::{Entry, Record, read};
+pub use report::{Hit, HitStatus, Status};
 pub use signature::{MOST_SEQUENCES, SequenceText, Signature};
-
-#[cfg(test)]
-mod tests;

@@ -1,7 +1,10 @@
 //! Theorems about the definitions, each the contract of a function, so that the check asks for its
 //! proof.
 ghost use Rattle.std.specs.Prelude.{◌≡◌, true};
+ghost use Rattle.records.specs.Examples.{Examples};
+ghost use Rattle.records.specs.Lawful.{BooksStayLawful};
 ghost use Rattle.records.specs.Laws.{BodyIsRead, FirstFault, ReadIsSpelled, RecordIsRead, SpelledApart, SpelledIsRead};
+ghost use Rattle.records.specs.ReportLaws.{ReportsRight};
 
 use kinds::Kind;
 
@@ -49,6 +52,31 @@ pub fn body_is_read<K: Kind>() -> bool
 pub fn record_is_read<K: Kind>() -> bool
     ensures answer { result ≡ true }
     ensures theorem { RecordIsRead K.alphabet }
+{
+    true
+}
+
+/// Worked examples of hits, misses, refusals, spans at the limit and formats that outrank others.
+pub fn examples() -> bool
+    ensures answer { result ≡ true }
+    ensures theorem { Examples }
+{
+    true
+}
+
+/// Each report says what its reading and its label say by the rules, and its ids rise where the
+/// book is lawful.
+pub fn reports_right<K: Kind>() -> bool
+    ensures answer { result ≡ true }
+    ensures theorem { ReportsRight K.alphabet }
+{
+    true
+}
+
+/// The empty book is lawful, and entering and withdrawing keep a book lawful.
+pub fn books_stay_lawful<K: Kind>() -> bool
+    ensures answer { result ≡ true }
+    ensures theorem { BooksStayLawful K.alphabet }
 {
     true
 }

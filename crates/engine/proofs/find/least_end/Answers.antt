@@ -5,7 +5,7 @@ use Rattle.patterns.specs.Fragments.{anchor, bodies}
 use Rattle.patterns.specs.Spans.{NoLess}
 use Rattle.patterns.specs.Codes.{codes_of}
 use Rattle.engine.specs.Stored.{placed_of}
-use Rattle.engine.proofs.Least.{sides, bounds_of, last_far, useful_far, best_begins, none_begins, best_ends, next_before, best_next, best_stays, none_through}
+use Rattle.engine.proofs.Least.{sides, bounds_of, useful_far, best_begins, none_begins, best_ends, next_before, best_next, best_stays, none_through}
 use Rattle.engine.proofs.Openings.{unlooked}
 use Rattle.engine.proofs.Smallest.{smaller_ends}
 use Rattle.engine.proofs.find.least_end.Goals as goal
@@ -33,8 +33,8 @@ loop-fit-init g c = (
       let few = g.R.Reading.fits c.args.reading.now in
       let many = length-map (g.R.Reading.elements c.args.reading.now) g.R.Element.Kind.alphabet.code in
       best_begins c.args.sequence.now c.args.fragment.now f s c.args.starts
-      (codes_of g.R.Element.Kind.alphabet (g.R.Reading.elements c.args.reading.now)) c.in_ok-place.place c.last_place-last.result c.in_ok-place.ensures (omega arith)
-      (λ start p early near inside. subst (λ n. p ≤ n) (sym c.last_place-last.ensures) (last_far c.args.starts.until start p early near inside)),
+      (codes_of g.R.Element.Kind.alphabet (g.R.Reading.elements c.args.reading.now)) c.of-opening.result c.of-opening.ensures.opening
+      c.in_ok-place.place c.last_place-last.result c.in_ok-place.ensures c.last_place-last.ensures (omega arith),
   c.of-opening.ensures.opening,
   unlooked c.of-opening.result (codes_of g.R.Element.Kind.alphabet (g.R.Reading.elements c.args.reading.now)) c.of-opening.ensures.after c.of-opening.ensures.next,
   omega (arith, c.of-opening.ensures.next),
@@ -72,7 +72,7 @@ loop-fit-preserved g c =
                 rw (w.last-is, w.best-is)
                 (best_stays sequence fragment f s starts xs _ codes c.loop-fit.place c.loop-fit.last c.next_fit_up_to.result c.next_fit_up_to.ensures.first
                 c.in-Some.fit c.in-Some.is c.loop-fit.best c.in_ok-place-2.place
-                (none_through sequence fragment f s starts xs c.loop-fit.opening c.in-Some.fit known (c.excludes.ensures.excluded.0 w.if-not-excludes.false))
+                (none_through sequence fragment f s starts xs c.loop-fit.opening known c.in-Some.fit (c.excludes.ensures.excluded.0 w.if-not-excludes.false))
                 c.in_ok-place-2.ensures.1 (c.loop-fit.invariant.0 f s))
           ],
       record {

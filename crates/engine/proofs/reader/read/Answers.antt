@@ -1,8 +1,9 @@
 use Rattle.std.proofs.Common.{◌≡◌, ◌++◌, drop, Some, None, Ok, Err, sym, refl, ap, ◌∙◌, subst, append-nil, arith}
 use Rattle.patterns.specs.Grammar.{start}
+use Rattle.lexer.specs.Tokens.{lexed, lexeme_in, position_in, written}
+use Rattle.lexer.proofs.Meanings.{prepended, token_means, end_follows, stop_follows}
 use Rattle.engine.specs.Reading.{held, Read}
-use Rattle.engine.specs.Tokens.{lexed, lexeme_in, position_in, written}
-use Rattle.engine.proofs.Meanings.{ReadSoFar, prepended, token_means, end_follows, stop_follows, read_none, token_inside, room, read_more}
+use Rattle.engine.proofs.Reading.{ReadSoFar, read_none, token_inside, room, read_more}
 use Rattle.engine.proofs.reader.read.Goals as goal
 
 pub loop-token-init : goal.loop-token-init

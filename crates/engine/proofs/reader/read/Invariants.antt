@@ -1,6 +1,6 @@
 use Rattle.std.proofs.Common.{◌≡◌, ◌-◌, length}
-use Rattle.engine.specs.Tokens.{position_in}
-use Rattle.engine.proofs.Meanings.{ReadSoFar}
+use Rattle.lexer.specs.Tokens.{position_in}
+use Rattle.engine.proofs.Reading.{ReadSoFar}
 use Rattle.engine.proofs.reader.read.Given as goal
 
 -- what was read before the lexer's place

@@ -1,6 +1,6 @@
 use Rattle.std.proofs.Common.{◌≡◌, ◌+◌, ◌-◌, ◌*◌, ◌≤◌, ◌++◌, length, drop}
 use Rattle.engine.specs.Reading.{held}
-use Rattle.engine.specs.Tokens.{codes_in}
+use Rattle.lexer.specs.Tokens.{codes_in}
 use Rattle.engine.proofs.pattern.Pattern.push_codes.Given as goal
 
 -- the codes that were put there and those of the pairs ahead are the run's

@@ -1,6 +1,7 @@
 use Rattle.std.proofs.Common.{length, ap, ◌∙◌, subst, arith}
-use Rattle.engine.specs.Tokens.{between_bars}
-use Rattle.engine.proofs.Groups.{Grouped, left_of, split_left, grouped_more, total_bars}
+use Rattle.lexer.specs.Tokens.{between_bars}
+use Rattle.lexer.proofs.TokenRuns.{left_of, split_left, total_bars}
+use Rattle.engine.proofs.Groups.{Grouped, grouped_more}
 use Rattle.engine.proofs.pattern.Pattern.push_group.Goals as goal
 
 pub push_codes-run-requires : goal.push_codes-run-requires

@@ -1,6 +1,7 @@
 use Rattle.std.proofs.Common.{length}
-use Rattle.engine.proofs.Groups.{Grouped, left_of}
-use Rattle.engine.specs.Tokens.{between_bars}
+use Rattle.lexer.specs.Tokens.{between_bars}
+use Rattle.lexer.proofs.TokenRuns.{left_of}
+use Rattle.engine.proofs.Groups.{Grouped}
 use Rattle.engine.proofs.pattern.Pattern.push_group.Given as goal
 
 -- the runs that were put there and those that are left are the group's

@@ -1,7 +1,7 @@
 use Rattle.std.proofs.Common.{◌≡◌, ◌+◌, ◌-◌, ◌≤◌, ◌++◌, length, drop}
-use Rattle.engine.specs.Meanings.{literals_at}
+use Rattle.lexer.specs.Meanings.{literals_at}
 use Rattle.engine.specs.Reading.{held}
-use Rattle.engine.specs.Tokens.{codes_in, pairs}
+use Rattle.lexer.specs.Tokens.{codes_in, pairs}
 use Rattle.engine.proofs.pattern.Pattern.push_literals.Given as goal
 
 -- the items that were put there and those of the pairs ahead are the run's

@@ -1,7 +1,9 @@
 use Rattle.std.proofs.Common.{length, ap, arith}
-use Rattle.engine.specs.Tokens.{codes_in, run_slice}
-use Rattle.engine.proofs.Groups.{codes_room, literals_many, other_written, range_written}
-use Rattle.engine.proofs.Lexing.{codes_length}
+use Rattle.lexer.specs.Tokens.{codes_in, run_slice}
+use Rattle.lexer.proofs.Lexing.{codes_length}
+use Rattle.lexer.proofs.Meanings.{literals_many}
+use Rattle.lexer.proofs.TokenRuns.{other_written, range_written}
+use Rattle.engine.proofs.Groups.{codes_room}
 use Rattle.engine.proofs.pattern.Pattern.push_token.Goals as goal
 
 pub push_literals-requires-clause-parts : goal.push_literals-requires-clause-parts

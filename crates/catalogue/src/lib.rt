@@ -1,0 +1,9 @@
+//! The catalogue: what stands, and the calls on it.
+#![tactic(auto)]
+
+mod catalogue;
+mod formats;
+mod signatures;
+mod standing;
+
+pub use catalogue::Catalogue;

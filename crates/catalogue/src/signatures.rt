@@ -1,0 +1,125 @@
+//! Signatures that stand.
+ghost use Rattle.std.specs.Prelude.{◌≡◌, ◌≤◌, Some, IfOk, IfErr, length, map};
+ghost use Rattle.std.specs.List.{list_all, AllByRecursion};
+ghost use Rattle.std.specs.Vec.{vec_capacity};
+ghost use Rattle.patterns.specs.Codes.{codes_of};
+ghost use Rattle.patterns.specs.Sequences.{hits_in};
+ghost use Rattle.engine.specs.Tables.{free_slots, StandsIn};
+ghost use Rattle.records.specs.Book as book;
+ghost use Rattle.records.specs.Calls.{after, unless};
+ghost use Rattle.records.specs.Entries.{signature as signature_entry};
+ghost use Rattle.records.specs.Refusals.{entry_refused, refused_from};
+ghost use Rattle.records.specs.Taken.{signature_in};
+ghost use Rattle.catalogue.specs.Entering.{fragment_total, signature_refused, with_entry, Compiles, MovedAll};
+ghost use Rattle.catalogue.specs.Standing.{signature_pair, SignaturesHold};
+
+use crate::standing::{Standing, place_of};
+use arrayvec::ArrayVec;
+use engine::{InTable, Sequence, Table};
+use faults::{Cause, Fault};
+use kinds::{Kind, Reading};
+use records::Signature;
+
+/// A catalogue holds at most this many signatures.
+pub const MOST_SIGNATURES: usize = 24;
+
+// A signature has at most this many sequences.
+const MOST_SEQUENCES: usize = 4;
+
+// The body of a signature has at most this many bytes: 4, and for each sequence 6 and the text.
+const LONGEST_BODY: usize = 828;
+
+/// A signature that stands: its body, and its sequences with their fragments in the table.
+#[derive(Drop)]
+pub(crate) struct StandingSignature<K> {
+    pub(crate) id: u16,
+    pub(crate) specific: bool,
+    pub(crate) body: ArrayVec<u8, LONGEST_BODY>,
+    pub(crate) sequences: ArrayVec<Option<InTable<K>>, MOST_SEQUENCES>,
+}
+
+impl<K> Standing for StandingSignature<K> {
+    ghost use Rattle.catalogue.specs.Standing.{signature_pair};
+
+    ghost pair = { signature_pair };
+
+    fn id(&self) -> u16 {
+        self.id
+    }
+
+    fn body(&self) -> &[u8] {
+        self.body.as_slice()
+    }
+}
+
+// The sequences of a signature, compiled; or the refusal of the first whose text is refused.
+fn compile<K: Kind>(
+    signature: &Signature<'_>,
+) -> Result<ArrayVec<Option<Sequence<K>>, MOST_SEQUENCES>, Fault>
+    ensures compiled { IfOk result (λ v.
+        Compiles K.alphabet (signature_in signature.now).sequences v.items) }
+    ensures refused { IfErr result (λ f.
+        refused_from K.alphabet 1 (signature_in signature.now).sequences ≡ Some f) }
+{
+    let mut compiled = ArrayVec::new();
+    let mut number = 0;
+    for sequence in signature.sequences.as_slice() {
+        number += 1;
+        let sequence = Sequence::compile(number, sequence.reference, sequence.text)?;
+        compiled.push(Some(sequence));
+    }
+    Ok(compiled)
+}
+
+// How many fragments sequences have together.
+fn count_fragments<K: Kind>(sequences: &[Option<Sequence<K>>]) -> usize
+    requires { length sequences.now ≤ 4 }
+    ensures { result ≡ fragment_total sequences.now }
+{
+    let mut total = 0;
+    for sequence in sequences {
+        if let Some(sequence) = sequence {
+            total += sequence.fragment_count();
+        }
+    }
+    total
+}
+
+// Moves sequences into a table that has room for their fragments.
+fn move_into<K: Kind>(
+    sequences: ArrayVec<Option<Sequence<K>>, MOST_SEQUENCES>,
+    table: &mut Table,
+) -> ArrayVec<Option<InTable<K>>, MOST_SEQUENCES>
+    requires { fragment_total sequences.items ≤ length (free_slots table.old) }
+    ensures { MovedAll sequences.items table.old table.new result.items }
+{
+    let mut moved = ArrayVec::new();
+    for sequence in sequences {
+        moved.push(sequence.and_then(|s| s.into_table(table).ok()));
+    }
+    moved
+}
+
+// Enters a signature whose body this is, or refuses it and changes nothing.
+pub(crate) fn enter<K: Kind>(
+    signatures: &mut Vec<StandingSignature<K>>,
+    table: &mut Table,
+    signature: &Signature<'_>,
+    body: &[u8],
+) -> Result<u16, Fault>
+    requires reads { book.signature_in body.now ≡ Some (signature_in signature.now) }
+    requires short { length body.now ≤ 828 }
+    requires room { 24 ≤ vec_capacity signatures.old }
+    requires holds { SignaturesHold K.alphabet signatures.old.items table.old }
+    ensures answer { result ≡ unless
+        (signature_refused K.alphabet (map signature_pair signatures.old.items)
+        (signature_in signature.now)) signature.now.id }
+    ensures pairs { map signature_pair signatures.new.items ≡ with_entry
+        (signature_refused K.alphabet (map signature_pair signatures.old.items)
+        (signature_in signature.now))
+        (map signature_pair signatures.old.items) signature.now.id body.now }
+    ensures holds { SignaturesHold K.alphabet signatures.new.items table.new }
+    ensures room { 24 ≤ vec_capacity signatures.new }
+{
+    Err(Fault::outside(Cause::Taken, 0))
+}

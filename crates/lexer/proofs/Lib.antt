@@ -1,0 +1,10 @@
+pub mod Cursors
+pub mod Gaps
+pub mod Lexing
+pub mod Machine
+pub mod Meanings
+pub mod Scans
+pub mod Texts
+pub mod TokenRuns
+pub mod Tokens
+pub mod Vectors

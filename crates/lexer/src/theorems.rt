@@ -1,0 +1,14 @@
+//! Theorems about the definitions, each the contract of a function, so that the check asks for its
+//! proof.
+ghost use Rattle.std.specs.Prelude.{◌≡◌, true};
+ghost use Rattle.lexer.specs.Tokens.{TokensAreTheText};
+
+use kinds::Kind;
+
+/// A text that is read has tokens, and as they are written they are the text.
+pub fn tokens_are_the_text<K: Kind>() -> bool
+    ensures theorem { TokensAreTheText K.alphabet }
+    ensures answer { result ≡ true }
+{
+    true
+}

@@ -10,7 +10,7 @@ ghost use Rattle.records.specs.Calls.{after, unless};
 ghost use Rattle.records.specs.Entries.{signature as signature_entry};
 ghost use Rattle.records.specs.Refusals.{entry_refused, refused_from};
 ghost use Rattle.records.specs.Taken.{signature_in};
-ghost use Rattle.catalogue.specs.Entering.{fragment_total, inserted, Compiles, MovedAll};
+ghost use Rattle.catalogue.specs.Entering.{fragment_count, fragment_total, inserted, Compiles, MovedAll, MovedIf};
 
 use crate::standing::{Standing, place_of};
 use arrayvec::ArrayVec;
@@ -84,6 +84,14 @@ fn count_fragments<K: Kind>(sequences: &[Option<Sequence<K>>]) -> usize
     total
 }
 
+// Moves a sequence, if there is one, into a table that has room for its fragments.
+fn move_one<K: Kind>(sequence: Option<Sequence<K>>, table: &mut Table) -> Option<InTable<K>>
+    requires { fragment_count sequence ≤ length (free_slots table.old) }
+    ensures { MovedIf sequence table.old table.new result }
+{
+    sequence?.into_table(table).ok()
+}
+
 // Moves sequences into a table that has room for their fragments.
 fn move_into<K: Kind>(
     sequences: ArrayVec<Option<Sequence<K>>, MOST_SEQUENCES>,
@@ -94,7 +102,7 @@ fn move_into<K: Kind>(
 {
     let mut moved = ArrayVec::new();
     for sequence in sequences {
-        moved.push(sequence.and_then(|s| s.into_table(table).ok()));
+        moved.push(move_one(sequence, table));
     }
     moved
 }

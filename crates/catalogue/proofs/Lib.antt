@@ -1,1 +1,3 @@
 pub mod Moving
+pub mod Sorted
+pub mod Slots

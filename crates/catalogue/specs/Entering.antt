@@ -1,16 +1,19 @@
--- What the steps of entering and withdrawing a signature do.
+-- What the steps of entering a signature do.
 use Rattle.std.specs.Prelude.{◌≡◌, ℕ, List, [], ◌∷◌, map, length, insert, count_by, nat_lt, Some, None, Option}
 use Rattle.std.specs.FinMap as map
 use Rattle.std.specs.FinMap.{FinMap}
 use Rattle.std.specs.List.{sum_by}
 use Rattle.std.specs.Ordering.{nat_cmp}
+use Rattle.faults.specs.declared.fault.Fault.{Fault}
 use Rattle.kinds.specs.Alphabet.{Alphabet}
 use Rattle.patterns.specs.Sequences.{Said, parts_said}
 use Rattle.engine.specs.Tables.{Slotted, Moved}
 use Rattle.engine.specs.declared.fragment.Fragment.{Fragment}
 use Rattle.records.specs.Book.{Book, said_by}
-use Rattle.records.specs.Entries.{Sequence}
-use Rattle.records.specs.Refusals.{refused_from}
+use Rattle.records.specs.Entries.{Sequence, Signature, signature}
+use Rattle.records.specs.Refusals.{entry_refused, refused_from}
+use Rattle.catalogue.specs.Standing.{bodies, signature_pair}
+use Rattle.catalogue.specs.declared.signatures.StandingSignature.{StandingSignature}
 
 -- no text of some sequences is refused, and this is what they are compiled to
 pub record Compiles {E : Type 0} (a : Alphabet E) (qs : List Sequence) (said : List (Option Said)) : Type 0 where
@@ -48,3 +51,11 @@ inserted pairs id body = insert pairs (count_by (λ (e : ℕ × List ℕ). nat_l
 -- a book of signatures alone
 abbrev pub signatures_alone : FinMap nat_cmp (List ℕ) → Book
 signatures_alone bodies = record { signatures = bodies; formats = map.empty }
+
+-- the book of some signatures
+abbrev pub signatures_in : {K : Type 0} → List (StandingSignature K) → Book
+signatures_in signatures = signatures_alone (bodies (map signature_pair signatures))
+
+-- why a signature is refused where others stand
+abbrev pub signature_refused : {E K : Type 0} → Alphabet E → List (StandingSignature K) → Signature → Option Fault
+signature_refused a signatures s = entry_refused a (signatures_in signatures) (signature s)

@@ -1,3 +1,4 @@
 pub mod Moving
 pub mod Sorted
 pub mod Slots
+pub mod Held

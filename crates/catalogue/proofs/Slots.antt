@@ -75,7 +75,7 @@ free_apart table slots free rest f is slot there free_there =
     absurd (cc)
 
 -- a standing signature has as many fragments as slots
-fragments_at : {E : Type 0} (a : Alphabet E) (table : List (Option Fragment)) (qs : List Sequence) (vs : List (Option Slotted)) → map (said_by a) qs ≡ map said_in vs
+pub fragments_at : {E : Type 0} (a : Alphabet E) (table : List (Option Fragment)) (qs : List Sequence) (vs : List (Option Slotted)) → map (said_by a) qs ≡ map said_in vs
     → AllByRecursion (StandsInIf table) vs → sum_by (fragments_in a) qs ≡ length (flat_map slots_in vs)
 fragments_at a table [] [] e h = refl
 fragments_at a table [] (v ∷ vs) e h = absurd (cc)

@@ -9,6 +9,7 @@ use Rattle.std.specs.Ordering.{nat_cmp, is_lt, is_eq, eq_by_cmp, MatchOrdering}
 use Rattle.std.specs.Cmp.{ranks, nat_cmp_total, unsigned_tied}
 use Rattle.std.proofs.lemmas.Bool.{cases_lt, lt-ltb, le-ltb}
 use Rattle.std.proofs.lemmas.Bool.Decides.{nat_tests}
+use Rattle.std.proofs.lemmas.List.{map-append, take-map, drop-map}
 use Rattle.std.proofs.lemmas.List.Sums.{sum_by-cons}
 use Rattle.catalogue.specs.Entering.{inserted}
 use Rattle.catalogue.specs.Standing.{bodies}
@@ -123,3 +124,21 @@ pub inserted_sorted : (pairs : List (ℕ × List ℕ)) (id : ℕ) (body : List �
     → T (is_sorted nat_cmp (inserted pairs id body))
 inserted_sorted pairs id body rise new =
     subst (λ l. T (is_sorted nat_cmp l)) (sym (inserted_put pairs id body rise new)) (is_sorted-put nat_cmp nat_cmp_total id body pairs rise)
+
+-- as many pairs are below an id as values that have them
+count_pairs : {X : Type 0} (pair : X → ℕ × List ℕ) (xs : List X) (id : ℕ) → count_by (λ x. ltb (pair x).0 id) xs ≡ below_count id (map pair xs)
+unfolding below_count
+count_pairs pair [] id = refl
+count_pairs pair (x ∷ xs) id =
+    sum_by-cons (λ y. cond (ltb (pair y).0 id) 1 0) x xs ∙ ap (λ n. cond (ltb (pair x).0 id) 1 0 + n) (count_pairs pair xs id)
+    ∙ sym (count_first id (pair x) (map pair xs))
+
+-- a value with a pair of that id is put at its place
+pub pairs_inserted : {X : Type 0} (pair : X → ℕ × List ℕ) (xs : List X) (x : X) (id : ℕ) (body : List ℕ) → pair x ≡ (id, body)
+    → map pair (insert xs (count_by (λ y. ltb (pair y).0 id) xs) x) ≡ inserted (map pair xs) id body
+unfolding below_count
+pairs_inserted pair xs x id body is =
+    let n = count_by (λ y. ltb (pair y).0 id) xs in
+    map-append pair (take n xs) (x ∷ drop n xs)
+    ∙ (λ i. sym (take-map pair n xs) i ++ is i ∷ sym (drop-map pair n xs) i)
+    ∙ ap (λ k. insert (map pair xs) k (id, body)) (count_pairs pair xs id)

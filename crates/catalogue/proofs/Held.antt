@@ -1,8 +1,8 @@
 -- Signatures that stand: how many fragments they have, and what they hold once one is put among them.
-use Rattle.std.proofs.Common.{◌≡◌, ℕ, ◌+◌, T, List, [], ◌∷◌, ◌++◌, map, length, take, drop, Some, None, Option, refl, sym, ap, ◌∙◌, subst, ⊎_elim, arith}
+use Rattle.std.proofs.Common.{◌≡◌, ℕ, T, List, [], ◌∷◌, ◌++◌, map, length, take, drop, Option, refl, sym, ap, ◌∙◌, subst, ⊎_elim, arith}
 use Rattle.std.specs.FinMap as finmap
 use Rattle.std.specs.FinMap.{is_sorted}
-use Rattle.std.specs.List.{cons_option, filter_map, flat_map, insert, sum_by, AllByRecursion}
+use Rattle.std.specs.List.{cons_option, filter_map, insert, sum_by, AllByRecursion}
 use Rattle.std.specs.Ordering.{nat_cmp}
 use Rattle.std.proofs.lemmas.List.{length-append, take-append-drop}
 use Rattle.std.proofs.lemmas.List.Concat.{flat_map-append}
@@ -16,10 +16,10 @@ use Rattle.engine.proofs.Tables.{free_distinct, front_distinct}
 use Rattle.records.specs.Book as book
 use Rattle.records.specs.Book.{fragments_of, fragments_standing}
 use Rattle.catalogue.specs.Entering.{MovedAll, signatures_in}
-use Rattle.catalogue.specs.Standing.{signature_pair, slots_of, used, Accounted, StandsInIf, SignatureHeld, SignaturesHold}
+use Rattle.catalogue.specs.Standing.{signature_pair, slots_of, said_in, used, Accounted, StandsInIf, SignatureHeld, SignaturesHold}
 use Rattle.catalogue.specs.declared.signatures.StandingSignature.{StandingSignature}
 use Rattle.catalogue.proofs.Moving.{all_free, kept_by_all}
-use Rattle.catalogue.proofs.Slots.{all_append, all_front, all_back, all_filled, distinct_append, back_distinct, parts_apart, free_apart, fragments_at}
+use Rattle.catalogue.proofs.Slots.{all_append, all_front, all_back, all_filled, distinct_append, back_distinct, parts_apart, free_apart, fragments_said, slots_total}
 
 -- sequences stand in another table too
 stand_on : (before after : List (Option Fragment)) → ((v : Option Slotted) → StandsInIf before v → StandsInIf after v) → (vs : List (Option Slotted))
@@ -52,7 +52,7 @@ module _ {E K : Type 0} (a : Alphabet E) where
       let h = held.0 in
       let rest = fragments_held table es held.1 in
       let others = filter_map book.signature_in (map (λ p. p.1) (map signature_pair es)) in
-      let one = fragments_at a table h.entry.sequences e.sequences.items h.said h.stands in
+      let one = fragments_said a h.entry.sequences (map said_in e.sequences.items) h.said ∙ slots_total table e.sequences.items h.stands in
       let all : sum_by (fragments_of a) (h.entry ∷ others) ≡ length (slots_of e ++ used es) =
       omega (arith, sum_by-cons (fragments_of a) h.entry others, length-append (slots_of e) (used es)) in
       subst (λ o. sum_by (fragments_of a) (cons_option o others) ≡ length (slots_of e ++ used es)) (sym h.reads) all
@@ -68,7 +68,12 @@ module _ {E K : Type 0} (a : Alphabet E) where
   held_in : (before after : List (Option Fragment)) (e : StandingSignature K) → SignatureHeld a before e
       → AllByRecursion (StandsInIf after) e.sequences.items → SignatureHeld a after e
   held_in before after e h stands = record {
-    entry = h.entry; reads = h.reads; id = h.id; specific = h.specific; said = h.said; stands = stands;
+    entry = h.entry;
+    reads = h.reads;
+    id = h.id;
+    specific = h.specific;
+    said = h.said;
+    stands = stands;
   }
 
   -- signatures are held there then

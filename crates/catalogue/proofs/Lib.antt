@@ -2,3 +2,4 @@ pub mod Moving
 pub mod Sorted
 pub mod Slots
 pub mod Held
+pub mod Refusing

@@ -1,9 +1,9 @@
 -- Sequences that are moved into a table, one after the other.
-use Rattle.std.proofs.Common.{◌≡◌, ℕ, suc, ◌+◌, ◌≤◌, List, [], ◌∷◌, ◌++◌, map, length, Some, None, Option, refl, sym, ap, ◌∙◌, subst, append_assoc, arith}
+use Rattle.std.proofs.Common.{◌≡◌, ◌+◌, List, [], ◌∷◌, ◌++◌, map, length, Some, None, Option, refl, sym, ap, ◌∙◌, subst, append_assoc, arith}
 use Rattle.std.specs.List.{flat_map, AllByRecursion}
 use Rattle.std.proofs.lemmas.List.{length-append}
 use Rattle.patterns.specs.Sequences.{Said, parts_said}
-use Rattle.engine.specs.Tables.{Slotted, StandsIn, Moved, free_slots}
+use Rattle.engine.specs.Tables.{Slotted, StandsIn, free_slots}
 use Rattle.engine.specs.declared.fragment.Fragment.{Fragment}
 use Rattle.engine.proofs.Tables.{stands_on}
 use Rattle.catalogue.specs.Entering.{fragment_count, MovedIf, MovedAll}

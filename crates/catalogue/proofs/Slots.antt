@@ -1,21 +1,18 @@
 -- The slots of the fragments that stand: those that are taken, and what they are accounted for.
-use Rattle.std.proofs.Common.{◌≡◌, ℕ, zero, suc, ◌+◌, ◌<◌, ◌≤◌, List, [], ◌∷◌, ◌++◌, map, length, take, drop, Some, None, Option, refl, sym, ap, ◌∙◌, subst, ⊎_elim, append_assoc, arith}
-use Rattle.std.specs.List.{flat_map, filter_map, sum_by, AllByRecursion, Contains}
-use Rattle.std.proofs.lemmas.List.{length-append, take-append-drop}
-use Rattle.std.proofs.lemmas.List.Concat.{flat_map-append}
+use Rattle.std.proofs.Common.{◌≡◌, ℕ, zero, suc, List, [], ◌∷◌, ◌++◌, map, length, Some, None, Option, refl, sym, subst, ⊎_elim, arith}
+use Rattle.std.specs.List.{flat_map, sum_by, AllByRecursion, Contains}
+use Rattle.std.proofs.lemmas.List.{length-append}
 use Rattle.std.proofs.lemmas.List.Elements.{Contains-append_left, Contains-append_right, Contains-append_cases, All-contains, All-from_recursion}
 use Rattle.std.proofs.lemmas.List.Sums.{sum_by-cons}
 use Rattle.kinds.specs.Alphabet.{Alphabet}
 use Rattle.patterns.specs.Sequences.{Said, parts_said}
-use Rattle.engine.specs.Tables.{Slotted, StandsIn, Moved, IsFilled, Distinct, Apart, at_slot, free_slots}
+use Rattle.engine.specs.Tables.{Slotted, IsFilled, Distinct, Apart, free_slots}
 use Rattle.engine.specs.declared.fragment.Fragment.{Fragment}
-use Rattle.engine.proofs.Tables.{stands_on, free_distinct, front_distinct, none_at}
-use Rattle.records.specs.Book as book
-use Rattle.records.specs.Book.{said_by, fragments_in, fragments_of, fragments_standing}
-use Rattle.records.specs.Entries.{Sequence, Signature}
-use Rattle.catalogue.specs.Entering.{MovedIf, MovedAll}
-use Rattle.catalogue.specs.Standing.{signature_pair, slots_in, slots_of, said_in, used, Accounted, StandsInIf, SignatureHeld}
-use Rattle.catalogue.specs.declared.signatures.StandingSignature.{StandingSignature}
+use Rattle.engine.proofs.Tables.{stands_on, none_at}
+use Rattle.records.specs.Book.{said_by, fragments_in}
+use Rattle.records.specs.Entries.{Sequence}
+use Rattle.catalogue.specs.Entering.{fragment_count, fragment_total}
+use Rattle.catalogue.specs.Standing.{slots_in, said_in, StandsInIf}
 
 -- Lists of slots.
 
@@ -74,19 +71,29 @@ free_apart table slots free rest f is slot there free_there =
     let none = none_at table slot (subst (λ l. Contains l slot) is (Contains-append_left free rest slot free_there)) in
     absurd (cc)
 
--- a standing signature has as many fragments as slots
-pub fragments_at : {E : Type 0} (a : Alphabet E) (table : List (Option Fragment)) (qs : List Sequence) (vs : List (Option Slotted)) → map (said_by a) qs ≡ map said_in vs
-    → AllByRecursion (StandsInIf table) vs → sum_by (fragments_in a) qs ≡ length (flat_map slots_in vs)
-fragments_at a table [] [] e h = refl
-fragments_at a table [] (v ∷ vs) e h = absurd (cc)
-fragments_at a table (q ∷ qs) [] e h = absurd (cc)
-fragments_at a table (q ∷ qs) (v ∷ vs) e h =
-    let head : said_by a q ≡ said_in v = cc in
-    let tail : map (said_by a) qs ≡ map said_in vs = cc in
-    let one : fragments_in a q ≡ length (slots_in v) = subst (λ o. elim o [ Some s ↦ length (parts_said s) | None ↦ 0 ] ≡ length (slots_in v)) (sym head) (counted v h.0) in
-    let rest = fragments_at a table qs vs tail h.1 in
-    omega (arith, sum_by-cons (fragments_in a) q qs, length-append (slots_in v) (flat_map slots_in vs))
+-- sequences have as many fragments as what they are compiled to
+pub fragments_said : {E : Type 0} (a : Alphabet E) (qs : List Sequence) (ss : List (Option Said)) → map (said_by a) qs ≡ ss
+    → sum_by (fragments_in a) qs ≡ fragment_total ss
+fragments_said a [] [] e = refl
+fragments_said a [] (s ∷ ss) e = absurd (cc)
+fragments_said a (q ∷ qs) [] e = absurd (cc)
+fragments_said a (q ∷ qs) (s ∷ ss) e =
+    let head : said_by a q ≡ s = cc in
+    let tail : map (said_by a) qs ≡ ss = cc in
+    let one : fragments_in a q ≡ fragment_count s = subst (λ o. elim o [ Some t ↦ length (parts_said t) | None ↦ 0 ] ≡ fragment_count s) (sym head) (counted s) in
+    omega (arith, sum_by-cons (fragments_in a) q qs, sum_by-cons fragment_count s ss, fragments_said a qs ss tail)
   where
-    counted : (w : Option Slotted) → StandsInIf table w → elim (said_in w) [ Some s ↦ length (parts_said s) | None ↦ 0 ] ≡ length (slots_in w)
+    counted : (o : Option Said) → elim o [ Some t ↦ length (parts_said t) | None ↦ 0 ] ≡ fragment_count o
+    counted None = refl
+    counted (Some t) = refl
+
+-- sequences that stand have as many fragments as slots
+pub slots_total : (table : List (Option Fragment)) (vs : List (Option Slotted)) → AllByRecursion (StandsInIf table) vs
+    → fragment_total (map said_in vs) ≡ length (flat_map slots_in vs)
+slots_total table [] h = refl
+slots_total table (v ∷ vs) h =
+    omega (arith, sum_by-cons fragment_count (said_in v) (map said_in vs), length-append (slots_in v) (flat_map slots_in vs), counted v h.0, slots_total table vs h.1)
+  where
+    counted : (w : Option Slotted) → StandsInIf table w → fragment_count (said_in w) ≡ length (slots_in w)
     counted None g = refl
     counted (Some w) g = sym g.counted

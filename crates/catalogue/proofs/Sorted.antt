@@ -1,9 +1,9 @@
 -- Pairs of ids and bodies whose ids rise: which ids are found, and the pairs with one more or without one.
-use Rattle.std.proofs.Common.{◌≡◌, ℕ, zero, suc, ◌+◌, ◌<◌, ◌≤◌, Bool, true, false, true≢false, cond, not, ◌&&◌, eqb, ltb, T, List, [], ◌∷◌, ◌++◌, map, length, take, drop, Some, None, Option, Ordering, Less, Equal, Greater, zero-add, refl, sym, ap, ◌∙◌, subst, ⊎_elim, arith}
+use Rattle.std.proofs.Common.{◌≡◌, ℕ, suc, ◌+◌, ◌<◌, ◌≤◌, Bool, true, false, true≢false, cond, not, ◌&&◌, eqb, ltb, T, List, [], ◌∷◌, ◌++◌, map, length, take, drop, Some, None, Ordering, Less, Equal, Greater, zero-add, refl, sym, ap, ◌∙◌, subst, ⊎_elim, arith}
 use Rattle.std.specs.FinMap as finmap
-use Rattle.std.specs.FinMap.{FinMap, find, put, is_sorted}
+use Rattle.std.specs.FinMap.{find, put, is_sorted}
 use Rattle.std.specs.FinMap.Entries.{by_order, below_all, is_sorted-put}
-use Rattle.std.specs.List.{count_by, list_any, insert, remove, position, position_or_len, AllByRecursion}
+use Rattle.std.specs.List.{count_by, insert, position, position_or_len, AllByRecursion}
 use Rattle.std.specs.Option.{is_some}
 use Rattle.std.specs.Ordering.{nat_cmp, is_lt, is_eq, eq_by_cmp, MatchOrdering}
 use Rattle.std.specs.Cmp.{ranks, nat_cmp_total, unsigned_tied}
@@ -104,8 +104,10 @@ inserted_put (e ∷ es) id body rise new = placed (nat_cmp id e.0) refl (ranks i
   where
     rest : T (below_all nat_cmp e.0 es) × T (is_sorted nat_cmp es)
     rest = both (below_all nat_cmp e.0 es) (is_sorted nat_cmp es) rise
+
     at_count : (n : ℕ) → below_count id (e ∷ es) ≡ n → inserted (e ∷ es) id body ≡ insert (e ∷ es) n (id, body)
     at_count n is = ap (λ k. insert (e ∷ es) k (id, body)) is
+
     placed : (o : Ordering) → nat_cmp id e.0 ≡ o → MatchOrdering o (id < e.0) (id ≡ e.0) (e.0 < id)
         → (is_some (find nat_cmp id es) ≡ false → inserted es id body ≡ put nat_cmp id body es)
         → inserted (e ∷ es) id body ≡ by_order o ((id, body) ∷ e ∷ es) ((e.0, body) ∷ es) (e ∷ put nat_cmp id body es)

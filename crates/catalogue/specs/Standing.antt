@@ -1,5 +1,5 @@
 -- What the fields of a catalogue owe its book.
-use Rattle.std.specs.Prelude.{◌≡◌, ℕ, ◌+◌, List, [], ◌∷◌, map, length, Some, None, Option, ⊤}
+use Rattle.std.specs.Prelude.{◌≡◌, ℕ, ◌+◌, List, [], map, length, Some, None, Option, ⊤}
 use Rattle.std.proofs.Common.{T}
 use Rattle.std.specs.FinMap as map
 use Rattle.std.specs.FinMap.{is_sorted, FinMap}
@@ -11,7 +11,7 @@ use Rattle.engine.specs.declared.fragment.Fragment.{Fragment}
 use Rattle.patterns.specs.Sequences.{Said}
 use Rattle.records.specs.Book as book
 use Rattle.records.specs.Book.{Book, said_by}
-use Rattle.records.specs.Entries.{Sequence, Signature}
+use Rattle.records.specs.Entries.{Signature}
 use Rattle.records.specs.Lawful.{Lawful}
 use Rattle.records.specs.Taken as taken
 use Rattle.catalogue.specs.declared.formats.StandingFormat.{StandingFormat}

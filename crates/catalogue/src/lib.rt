@@ -1,9 +1,6 @@
 //! The catalogue: what stands, and the calls on it.
 #![tactic(auto)]
 
-mod catalogue;
 mod formats;
 mod signatures;
 mod standing;
-
-pub use catalogue::Catalogue;

@@ -1,0 +1,5 @@
+pub mod Moving
+pub mod Sorted
+pub mod Slots
+pub mod Held
+pub mod Refusing

@@ -1,5 +1,5 @@
 -- Bodies are read alone as they are in their records.
-use Rattle.std.proofs.Common.{◌≡◌, ℕ, ◌+◌, List, [], ◌++◌, length, drop, Ok, Err, refl, sym, ap, subst, ◌∙◌}
+use Rattle.std.proofs.Common.{◌≡◌, ℕ, List, [], ◌++◌, length, Ok, Err, ap, subst, ◌∙◌}
 use Rattle.std.specs.Prelude.{◌==◌, if◌then◌else◌}
 use Rattle.std.proofs.lemmas.Bool.{eqb-true}
 use Rattle.std.proofs.lemmas.List.{append-nil, nil_from_length}
@@ -7,9 +7,10 @@ use Rattle.kinds.specs.Alphabet.{Alphabet, Lawful}
 use Rattle.records.specs.Entries.{Entry, signature, format, joined, signature_fields, format_fields, body_of, IsSignature, IsFormat, IsEntry}
 use Rattle.records.specs.Laws.{IsBytes, IsBodyOf, BodyIsRead, RecordIsRead}
 use Rattle.records.specs.Reading.{Rest, Read, ended, signature_of, format_of}
+use Rattle.records.proofs.Bodies.{ok_inside, signature_entered, format_entered}
 use Rattle.records.proofs.Formats.{format_reads}
 use Rattle.records.proofs.Readers.{Reader, Anything, Spelled, bind_ok, guard_ok}
-use Rattle.records.proofs.Records.{read_is_spelled, spelled_is_read}
+use Rattle.records.proofs.Records.{spelled_is_read}
 use Rattle.records.proofs.Signatures.{signature_reads}
 
 module _ {A : Type 0} (P : Rest → Read A) (Fits : A → Type 0) (F : A → List (List ℕ)) (reads : Reader Anything P (Spelled Fits F)) where
@@ -24,34 +25,18 @@ module _ {A : Type 0} (P : Rest → Read A) (Fits : A → Type 0) (F : A → Lis
       let all : r.bytes ≡ joined (F value.0.0) = t.2.bytes ∙ ap (λ rest. joined t.0 ++ rest) nothing ∙ append-nil (joined t.0) ∙ ap joined t.1.spelled in
       subst (λ y. Fits y × (r.bytes ≡ joined (F y))) last.1 (t.1.fits, all)
 
-  -- what has a spelling is read from it
-  ended_again : (place : ℕ) (x : A) → Fits x → ended (P (record { place = place; bytes = joined (F x) })) ≡ Ok x
-  ended_again place x fits =
-      let bytes = joined (F x) in
-      let r : Rest = record { place = place; bytes = bytes } in
-      let s : Rest = record { place = place + length bytes; bytes = [] } in
-      let read : P r ≡ Ok (x, s) = reads.again r s x (F x) (record { fits = fits; spelled = refl }) (record { bytes = sym (append-nil bytes); place = refl }) tt in
-      ap ended read
-
 -- the body of an entry is its spelling
 body_is_spelled : (body : List ℕ) (e : Entry) → IsBytes body → IsBodyOf e body → IsEntry e × (body ≡ body_of e)
 unfolding signature_of format_of
 body_is_spelled body (signature s) fits read = ended_taken _ IsSignature signature_fields signature_reads (record { place = 4; bytes = body }) s fits read
 body_is_spelled body (format f) fits read = ended_taken _ IsFormat format_fields format_reads (record { place = 4; bytes = body }) f fits read
 
--- the spelling of an entry is its body
-spelled_is_body : (e : Entry) → IsEntry e → IsBodyOf e (body_of e)
-unfolding signature_of format_of
-spelled_is_body (signature s) fits = ended_again _ IsSignature signature_fields signature_reads 4 s fits
-spelled_is_body (format f) fits = ended_again _ IsFormat format_fields format_reads 4 f fits
+-- the law that a body is read alone
+pub body_is_read : {E : Type 0} (a : Alphabet E) → BodyIsRead a
+body_is_read a bytes (signature s) read = ok_inside _ s (signature_entered a bytes s read)
+body_is_read a bytes (format f) read = ok_inside _ f (format_entered a bytes f read)
 
 module _ {E : Type 0} (a : Alphabet E) (lawful : Lawful a) where
-  -- the law that a body is read alone
-  pub body_is_read : BodyIsRead a
-  body_is_read bytes e fits read =
-      let spelled = read_is_spelled a lawful bytes e fits read in
-      subst (IsBodyOf e) (sym (ap (drop 4) spelled.1)) (spelled_is_body e spelled.0)
-
   -- the law that a record of a body is read
   pub record_is_read : RecordIsRead a
   record_is_read body e fits read =

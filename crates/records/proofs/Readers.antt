@@ -122,7 +122,7 @@ allowed_err p r (Ok x) n fails e = sym (guard_err (p x.0) x r.place n e)
 allowed_err p r (Err m) n fails e = let same : m ≡ n = cc in sym same ∙ fails m refl
 
 -- a value that is allowed passes the test
-allowed_ok : {A : Type 0} (p : A → Bool) (r : Rest) (read : Read A) (x : A × Rest) → allowed p r read ≡ Ok x → (read ≡ Ok x) × (p x.0 ≡ true)
+pub allowed_ok : {A : Type 0} (p : A → Bool) (r : Rest) (read : Read A) (x : A × Rest) → allowed p r read ≡ Ok x → (read ≡ Ok x) × (p x.0 ≡ true)
 allowed_ok {A} p r (Ok y) x e = let g = guard_ok (p y.0) y x r.place e in (ap (λ z. Ok z) g.1, subst (λ (z : A × Rest). p z.0 ≡ true) g.1 g.0)
 allowed_ok p r (Err m) x e = absurd cc
 

@@ -54,7 +54,7 @@ module _ {E : Type 0} (a : Alphabet E) where
 
   -- The body of a record that is read is read alone.
   abbrev pub BodyIsRead : Type 0
-  BodyIsRead = (bytes : List ℕ) (e : Entry) → IsBytes bytes → entry_at a bytes ≡ Ok e → IsBodyOf e (drop 4 bytes)
+  BodyIsRead = (bytes : List ℕ) (e : Entry) → entry_at a bytes ≡ Ok e → IsBodyOf e (drop 4 bytes)
 
   -- A body that is read alone is read in a record of its kind.
   abbrev pub RecordIsRead : Type 0

@@ -4,7 +4,6 @@ use Rattle.std.specs.List.{list_any}
 use Rattle.faults.specs.Faults.{outside}
 use Rattle.faults.specs.declared.fault.Cause.TheVariants.{Field}
 use Rattle.faults.specs.declared.fault.Fault.{Fault}
-use Rattle.kinds.specs.Alphabet.{Alphabet}
 use Rattle.records.specs.Entries as entry
 use Rattle.records.specs.Entries.{printable, label_character}
 use Rattle.records.specs.Reading as reading
@@ -80,12 +79,3 @@ entry_in (entered.Format f) = entry.format (format_in f)
 abbrev pub answer_in : Result Entry Fault → Result entry.Entry Fault
 answer_in (Ok e) = Ok (entry_in e)
 answer_in (Err f) = Err f
-
--- what is read, or the fault of the field at the place that is at fault
-abbrev pub or_fault : {A : Type 0} → Result A ℕ → Result A Fault
-or_fault (Ok x) = Ok x
-or_fault (Err place) = Err (outside Field place)
-
--- the entry of a record, or the refusal of the first field at fault
-abbrev pub entry_read : {E : Type 0} → Alphabet E → List ℕ → Result entry.Entry Fault
-entry_read a bytes = or_fault (reading.entry_at a bytes)

@@ -1,7 +1,8 @@
 //! Records: their kinds, their bodies and their entries.
 ghost use Rattle.std.specs.Prelude.{◌≡◌};
+ghost use Rattle.records.specs.Calls.{entry_read};
 ghost use Rattle.records.specs.Reading.{kind_at};
-ghost use Rattle.records.specs.Taken.{answer_in, entry_read, kind_and_body, wanted_in, Gives};
+ghost use Rattle.records.specs.Taken.{answer_in, kind_and_body, wanted_in, Gives};
 
 use crate::format::Format;
 use crate::signature::Signature;

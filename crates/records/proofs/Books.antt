@@ -1,5 +1,5 @@
 -- Books as the lists of what stands in them: maps from ids, made from lists of pairs in order.
-use Rattle.std.proofs.Common.{◌≡◌, ℕ, zero, suc, ◌+◌, ◌<◌, ◌≤◌, Bool, true, false, not, cond, ltb, T, ◌&&◌, ◌⊎◌, ◌↔◌, List, [], ◌∷◌, ◌++◌, map, length, take, drop, get_or, Some, None, Option, Ordering, Less, Equal, Greater, is_some, sym, refl, ap, ◌∙◌, subst, ⊎_elim, arith}
+use Rattle.std.proofs.Common.{◌≡◌, ℕ, zero, suc, ◌+◌, ◌<◌, ◌≤◌, Bool, true, false, not, cond, ltb, T, ◌&&◌, ◌↔◌, List, [], ◌∷◌, map, length, take, drop, get_or, Some, None, Option, Ordering, Less, Equal, Greater, is_some, sym, refl, ap, ◌∙◌, subst, arith}
 use Rattle.std.proofs.lemmas.Cmp.{ranked, eq_by_cmp_equiv}
 use Rattle.std.proofs.lemmas.List.Sums.{sum_by-cons}
 use Rattle.std.proofs.lemmas.Bool.{lt-ltb, le-ltb}
@@ -8,7 +8,7 @@ use Rattle.std.proofs.lemmas.Option.{none-some}
 use Rattle.std.specs.Cmp.{nat_cmp_is, nat_cmp_total}
 use Rattle.std.specs.FinMap as map
 use Rattle.std.specs.FinMap.Entries.{put, find, where_key, below_all, is_sorted, by_order, is_sorted-put, find-where_key, is_sorted-where_key}
-use Rattle.std.specs.List.{filter, filter_map, cons_option, insert, remove, sum_by, count_by, slice_get, AllByRecursion}
+use Rattle.std.specs.List.{filter_map, cons_option, insert, remove, sum_by, count_by, slice_get, AllByRecursion}
 use Rattle.std.specs.Ordering.{nat_cmp, is_lt, is_eq, eq_by_cmp}
 
 -- both of two tests hold
@@ -16,14 +16,16 @@ both : (x y : Bool) → T (x && y) ↔ (T x × T y)
 both true y = (λ h. (tt, h), λ h. h.1)
 both false y = (λ h. absurd h, λ h. absurd h.0)
 
--- the order of two numbers, from what holds of them
-pub less : (x y : ℕ) → x < y → nat_cmp x y ≡ Less
+-- the order of two numbers, from what holds of them: the first is below the second
+less : (x y : ℕ) → x < y → nat_cmp x y ≡ Less
 less x y lt = sym (nat_cmp_is x y Less lt)
 
-pub more : (x y : ℕ) → y < x → nat_cmp x y ≡ Greater
+-- the second is below the first
+more : (x y : ℕ) → y < x → nat_cmp x y ≡ Greater
 more x y lt = sym (nat_cmp_is x y Greater lt)
 
-pub equal : (x y : ℕ) → x ≡ y → nat_cmp x y ≡ Equal
+-- they are the same
+equal : (x y : ℕ) → x ≡ y → nat_cmp x y ≡ Equal
 equal x y e = sym (nat_cmp_is x y Equal e)
 
 -- and what holds of them, where they are in order
@@ -46,6 +48,19 @@ turned false c x y e = ap (λ d. cond d y x) e
 none_from : {A : Type 0} (o : Option A) → is_some o ≡ false → o ≡ None
 none_from None e = refl
 none_from (Some x) e = cc
+
+-- the images of a list with an element more are those of the list with its image more
+pub map_insert : {X Y : Type 0} (f : X → Y) (xs : List X) (i : ℕ) (x : X) → map f (insert xs i x) ≡ insert (map f xs) i (f x)
+map_insert f xs zero x = refl
+map_insert f [] (suc i) x = refl
+map_insert f (y ∷ xs) (suc i) x = ap (λ ys. f y ∷ ys) (map_insert f xs i x)
+
+-- and of a list without one, those without its image
+pub map_remove : {X Y : Type 0} (f : X → Y) (xs : List X) (i : ℕ) → map f (remove xs i) ≡ remove (map f xs) i
+map_remove f [] zero = refl
+map_remove f [] (suc i) = refl
+map_remove f (y ∷ xs) zero = refl
+map_remove f (y ∷ xs) (suc i) = ap (λ ys. f y ∷ ys) (map_remove f xs i)
 
 module _ {X : Type 0} where
   -- a key that is below all keys of a list
@@ -71,17 +86,19 @@ module _ {X : Type 0} where
     pub before : AllByRecursion (λ e. e.0 < k) (take i es)
     pub behind : AllByRecursion (λ e. k < e.0) (drop i es)
 
-  -- from what holds at each index, as a search says it
-  pub place_found : (k : ℕ) (es : List (ℕ × X)) (i : ℕ) → ((j : ℕ) (d : ℕ × X) → j < i → j < length es → (get_or es j d).0 < k)
-      → ((j : ℕ) (d : ℕ × X) → i ≤ j → j < length es → k < (get_or es j d).0) → IsPlace k es i
-  place_found k [] zero low high = record { before = tt; behind = tt }
-  place_found k [] (suc i) low high = record { before = tt; behind = tt }
-  place_found k (e ∷ es) zero low high =
-      let rest = place_found k es zero (λ j d lt _. absurd (omega arith)) (λ j d _ lt. high (suc j) d (omega arith) (omega arith)) in
-      record { before = tt; behind = (high zero e (omega arith) (omega arith), rest.behind) }
-  place_found k (e ∷ es) (suc i) low high =
-      let rest = place_found k es i (λ j d lt within. low (suc j) d (omega arith) (omega arith)) (λ j d le within. high (suc j) d (omega arith) (omega arith)) in
-      record { before = (low zero e (omega arith) (omega arith), rest.before); behind = rest.behind }
+  -- from what holds at each index of items with entries, as a search says it
+  pub place_found : {S : Type 0} (entry : S → ℕ × X) (k : ℕ) (items : List S) (i : ℕ)
+      → ((j : ℕ) (d : S) → j < i → j < length items → (entry (get_or items j d)).0 < k)
+      → ((j : ℕ) (d : S) → i ≤ j → j < length items → k < (entry (get_or items j d)).0)
+      → IsPlace k (map entry items) i
+  place_found entry k [] zero low high = record { before = tt; behind = tt }
+  place_found entry k [] (suc i) low high = record { before = tt; behind = tt }
+  place_found entry k (s ∷ items) zero low high =
+      let rest = place_found entry k items zero (λ j d lt _. absurd (omega arith)) (λ j d _ lt. high (suc j) d (omega arith) (omega arith)) in
+      record { before = tt; behind = (high zero s (omega arith) (omega arith), rest.behind) }
+  place_found entry k (s ∷ items) (suc i) low high =
+      let rest = place_found entry k items i (λ j d lt within. low (suc j) d (omega arith) (omega arith)) (λ j d le within. high (suc j) d (omega arith) (omega arith)) in
+      record { before = (low zero s (omega arith) (omega arith), rest.before); behind = rest.behind }
 
   -- no key above a key is below it
   none_counted : (k : ℕ) (es : List (ℕ × X)) → AllByRecursion (λ e. k < e.0) es → count_by (λ e. ltb e.0 k) es ≡ 0

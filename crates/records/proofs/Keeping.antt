@@ -1,12 +1,12 @@
 -- Entering and withdrawing keep a lawful book lawful.
-use Rattle.std.proofs.Common.{◌≡◌, ℕ, ◌+◌, ◌-◌, ◌<◌, ◌≤◌, Bool, true, false, not, cond, ◌⊎◌, ◌↔◌, List, [], ◌∷◌, map, length, drop, Some, None, Ok, Err, Option, Result, Ordering, Less, Equal, Greater, is_some, sym, refl, ap, ◌∙◌, subst, arith}
-use Rattle.std.proofs.lemmas.Bool.{leb-false, ltb-false, not-false, not_from_true, false_from_ne_true}
+use Rattle.std.proofs.Common.{◌≡◌, ℕ, ◌+◌, ◌-◌, ◌<◌, ◌≤◌, Bool, true, false, not, cond, List, [], ◌∷◌, map, length, drop, Some, None, Ok, Err, Option, Result, Ordering, Less, Equal, Greater, is_some, sym, refl, ap, ◌∙◌, subst, arith}
+use Rattle.std.proofs.lemmas.Bool.{leb-false, ltb-false, not-false, not_from_true}
 use Rattle.std.proofs.lemmas.Cmp.{ranked}
-use Rattle.std.proofs.lemmas.List.Elements.{All-from_recursion, recursion_from_All, All-drop, All-filter, All-weaker}
+use Rattle.std.proofs.lemmas.List.{nil_from_length}
+use Rattle.std.proofs.lemmas.List.Elements.{All-from_recursion, recursion_from_All, All-drop, All-filter}
 use Rattle.std.specs.Cmp.{nat_cmp_total}
 use Rattle.std.specs.FinMap as map
-use Rattle.std.specs.FinMap.Entries.{put}
-use Rattle.std.specs.List.{filter, filter_map, find, AllByRecursion, Contains, sum_by}
+use Rattle.std.specs.List.{filter_map, find, AllByRecursion, Contains, sum_by}
 use Rattle.std.specs.Option.{option_map, option_or}
 use Rattle.std.specs.Ordering.{nat_cmp, is_eq, eq_by_cmp}
 use Rattle.faults.specs.Faults.{outside}
@@ -14,14 +14,14 @@ use Rattle.faults.specs.declared.fault.Cause.TheVariants.{Field}
 use Rattle.faults.specs.declared.fault.Fault.{Fault}
 use Rattle.kinds.specs.Alphabet.{Alphabet}
 use Rattle.records.specs.Book.{Book, empty, signature_in, format_in, formats_of, fragments_of, fragments_standing}
-use Rattle.records.specs.Calls.{after, entry_read, with_body, entered, withdrawn_signature, withdrawn_format}
+use Rattle.records.specs.Calls.{after, with_body, entered}
 use Rattle.records.specs.Entries.{Signature, Format, Entry, signature, format}
 use Rattle.records.specs.Lawful.{SignatureStands, FormatStands, Lawful, BooksStayLawful}
 use Rattle.records.specs.Reading.{entry_at}
 use Rattle.records.specs.Refusals.{refused_if, entry_refused, missing_id, signature_kept, format_kept}
 use Rattle.records.specs.Report.{among_ids}
 use Rattle.records.proofs.Bodies.{signature_entered, format_entered}
-use Rattle.records.proofs.Books.{without, all_put, counted, entries_left, sum_inserted, sum_removed}
+use Rattle.records.proofs.Books.{all_put, counted, entries_left, sum_inserted, sum_removed}
 use Rattle.records.proofs.Members.{contains_map, contains_filter_map, holds_of, holds_of_all, find_nothing, find_nothing_more, among_decides}
 
 -- Refusals that do not hold.
@@ -51,11 +51,6 @@ after_keeps : (P : Book → Type 0) (refusal : Option Fault) (old new : Book) �
 after_keeps P None old new before then = then refl
 after_keeps P (Some f) old new before then = before
 
--- a list of no length is empty
-no_elements : {X : Type 0} (xs : List X) → length xs ≡ 0 → xs ≡ []
-no_elements [] e = refl
-no_elements (x ∷ xs) e = absurd (omega arith)
-
 -- Keys.
 
 -- a key stays when another is entered
@@ -80,7 +75,7 @@ len_more m k v new = map.len-insert nat_cmp_total m k v ∙ ap (λ b. cond b (ma
 
 -- a map of no length has no entries
 none_in : (m : map.FinMap nat_cmp (List ℕ)) → map.len m ≡ 0 → map.entries m ≡ []
-none_in m none = no_elements (map.entries m) (sym (map.len-entries m) ∙ none)
+none_in m none = nil_from_length (map.entries m) (sym (map.len-entries m) ∙ none)
 
 -- and that of a map without a key
 len_less : (m : map.FinMap nat_cmp (List ℕ)) (k : ℕ) → map.len (map.remove m k) ≤ map.len m
@@ -98,17 +93,17 @@ named_still : (old new : Book) (f : Format)
 named_still old new f signatures formats none =
     let parts = neither _ _ none in
     let first = find_nothing_more
-            (λ q. not (map.contains_key old.signatures q))
-            (λ q. not (map.contains_key new.signatures q))
-            f.signatures
-            (λ q here e. not_from_true _ (signatures q here (not-false _ e)))
-            parts.0 in
+    (λ q. not (map.contains_key old.signatures q))
+    (λ q. not (map.contains_key new.signatures q))
+    f.signatures
+    (λ q here e. not_from_true _ (signatures q here (not-false _ e)))
+    parts.0 in
     let second = find_nothing_more
-            (λ q. not (map.contains_key old.formats q))
-            (λ q. not (map.contains_key new.formats q))
-            f.outranked
-            (λ q here e. not_from_true _ (formats q here (not-false _ e)))
-            parts.1 in
+    (λ q. not (map.contains_key old.formats q))
+    (λ q. not (map.contains_key new.formats q))
+    f.outranked
+    (λ q here e. not_from_true _ (formats q here (not-false _ e)))
+    parts.1 in
     ap (λ o. option_or o (find (λ q. not (map.contains_key new.formats q)) f.outranked)) first ∙ second
 
 -- so a format stands there
@@ -196,7 +191,7 @@ module _ {E : Type 0} (a : Alphabet E) where
         let len = len_more book.formats f.id body new in
         let next = with_body book (format f) body in
         let still : (g : Format) → missing_id book g ≡ None → missing_id next g ≡ None =
-            λ g. named_still book next g (λ q _ has. has) (λ q _ has. has_still book.formats f.id body q has) in
+        λ g. named_still book next g (λ q _ has. has) (λ q _ has. has_still book.formats f.id body q has) in
         let named = still f (made_of_none _ _ missing.0) in
         record {
           signatures = lawful.signatures;
@@ -221,8 +216,8 @@ module _ {E : Type 0} (a : Alphabet E) where
     entered_lawful : (bytes : List ℕ) → AllByRecursion (λ b. b < 256) bytes → Lawful a (entered a book bytes)
     entered_lawful bytes all =
         elim (entry_at a bytes) as (λ (r : Result Entry ℕ). entry_at a bytes ≡ r
-            → Lawful a (let outcome : Result Entry Fault = elim r [ Ok e ↦ Ok e | Err place ↦ Err (outside Field place) ] in
-            elim outcome [ Err f ↦ book | Ok e ↦ after (entry_refused a book e) book (with_body book e (drop 4 bytes)) ])) [
+        → Lawful a (let outcome : Result Entry Fault = elim r [ Ok e ↦ Ok e | Err place ↦ Err (outside Field place) ] in
+        elim outcome [ Err f ↦ book | Ok e ↦ after (entry_refused a book e) book (with_body book e (drop 4 bytes)) ])) [
           | Ok e ↦ λ read. entry_enters bytes all e read
           | Err place ↦ λ _. lawful
         ] refl
@@ -252,10 +247,10 @@ module _ {E : Type 0} (a : Alphabet E) where
     -- and a format that none outranks
     format_leaves : (id : ℕ) → format_kept book id ≡ None → Lawful a (record { signatures = book.signatures; formats = map.remove book.formats id })
     format_leaves id allowed =
+        let few : map.len (map.remove book.formats id) ≤ 48 = omega (arith, len_less book.formats id, lawful.few_formats) in
         let stood = neither _ _ allowed in
         let free = neither _ _ stood.1 in
         let unnamed = not_naming book (λ f. among_ids id f.outranked) (made_of_none _ _ (made_of_none _ _ free.0)) in
-        let len = len_less book.formats id in
         let next : Book = record { signatures = book.signatures; formats = map.remove book.formats id } in
         record {
           signatures = lawful.signatures;
@@ -266,7 +261,7 @@ module _ {E : Type 0} (a : Alphabet E) where
               (named_still book next stands.entry (λ q _ has. has) (λ q named has. has_left book.formats id q (other_id id stands.entry.outranked q none named) has) stands.named)));
           few_signatures = lawful.few_signatures;
           few_fragments = lawful.few_fragments;
-          few_formats = omega (arith, lawful.few_formats);
+          few_formats = few;
         }
 
   -- The empty book is lawful, and each call that changes a lawful book leaves a lawful one.

@@ -1,7 +1,7 @@
 -- Members of lists: of a filter and a map, and what the tests of a list decide.
-use Rattle.std.proofs.Common.{◌≡◌, ℕ, zero, suc, ◌<◌, Bool, true, false, cond, ◌==◌, eqb, ◌⊎◌, ◌↔◌, List, [], ◌∷◌, map, length, Some, None, Decides, Option, sym, refl, ap, ◌∙◌, subst, inl, inr, ⊎_elim, arith}
+use Rattle.std.proofs.Common.{◌≡◌, ℕ, zero, suc, Bool, true, false, cond, ◌==◌, ◌⊎◌, ◌↔◌, List, [], ◌∷◌, map, Some, None, Decides, Option, sym, refl, ap, ◌∙◌, subst, inl, inr, ⊎_elim, arith}
 use Rattle.std.proofs.lemmas.Bool.{false≢true}
-use Rattle.std.proofs.lemmas.Option.{none-some}
+use Rattle.std.proofs.lemmas.Option.{none-some, same_Some}
 use Rattle.std.proofs.lemmas.Bool.Decides.{Decides-eqb, Decides-like, Decides-and, Decides-or}
 use Rattle.std.specs.List.{filter, filter_map, cons_option, find, list_any, list_all, AllByRecursion, Contains}
 
@@ -47,10 +47,6 @@ contains_map f (x ∷ xs) y =
       λ h. ⊎_elim (λ is. subst (λ z. Contains (f x ∷ map f xs) z) (ap f is ∙ sym h.2) (contains_here (f x) (map f xs))) (λ k. contains_there (f x) (map f xs) y (rest.1 (h.0, k, h.2))) (contains_cases x xs h.0 h.1),
     )
 
--- two that are some are some of one
-some_inside : {X : Type 0} (x y : X) → Some x ≡ Some y → x ≡ y
-some_inside x y e = cc
-
 -- what a function gives of the elements, where it gives something
 pub contains_filter_map : {X Y : Type 0} (h : X → Option Y) (xs : List X) (y : Y) → Contains (filter_map h xs) y ↔ ((x : X) × Contains xs x × (h x ≡ Some y))
 contains_filter_map h [] y = (λ k. absurd (contains_nil y k), λ k. absurd (contains_nil k.0 k.1))
@@ -58,15 +54,17 @@ contains_filter_map {X} {Y} h (x ∷ xs) y =
     let rest = contains_filter_map h xs y in
     let later : Contains (filter_map h xs) y → (z : X) × Contains (x ∷ xs) z × (h z ≡ Some y) = λ k. let l = rest.0 k in (l.0, contains_there x xs l.0 l.1, l.2) in
     elim (h x) as (λ (o : Option Y). h x ≡ o → Contains (cons_option o (filter_map h xs)) y ↔ ((z : X) × Contains (x ∷ xs) z × (h z ≡ Some y))) [
-      | Some w ↦ λ e.
-          (λ k. ⊎_elim (λ is. (x, contains_here x xs, e ∙ ap (λ v. Some v) is)) later (contains_cases w (filter_map h xs) y k),
-          λ k. ⊎_elim
-          (λ is. let same : w ≡ y = some_inside w y (sym e ∙ ap h is ∙ k.2) in subst (λ z. Contains (w ∷ filter_map h xs) z) same (contains_here w (filter_map h xs)))
-          (λ l. contains_there w (filter_map h xs) y (rest.1 (k.0, l, k.2)))
-          (contains_cases x xs k.0 k.1))
-      | None ↦ λ e.
-          (later,
-          λ k. ⊎_elim (λ is. absurd (none-some y (sym e ∙ ap h is ∙ k.2))) (λ l. rest.1 (k.0, l, k.2)) (contains_cases x xs k.0 k.1))
+      | Some w ↦ λ e. (
+        λ k. ⊎_elim (λ is. (x, contains_here x xs, e ∙ ap (λ v. Some v) is)) later (contains_cases w (filter_map h xs) y k),
+        λ k. ⊎_elim
+            (λ is. let same : w ≡ y = same_Some w y (sym e ∙ ap h is ∙ k.2) in subst (λ z. Contains (w ∷ filter_map h xs) z) same (contains_here w (filter_map h xs)))
+            (λ l. contains_there w (filter_map h xs) y (rest.1 (k.0, l, k.2)))
+            (contains_cases x xs k.0 k.1),
+      )
+      | None ↦ λ e. (
+        later,
+        λ k. ⊎_elim (λ is. absurd (none-some y (sym e ∙ ap h is ∙ k.2))) (λ l. rest.1 (k.0, l, k.2)) (contains_cases x xs k.0 k.1),
+      )
     ] refl
 
 -- what holds of each element holds of one

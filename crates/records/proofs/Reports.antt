@@ -3,16 +3,15 @@ use Rattle.std.proofs.Common.{◌≡◌, ℕ, suc, ◌<◌, ◌≤◌, Bool, tru
 use Rattle.std.proofs.lemmas.Bool.{false≢true, cases_lt, not_from_false, ne_eqb, cond-true, cond-false}
 use Rattle.std.proofs.lemmas.Bool.Decides.{Decides-like, Decides-not, Decides-and}
 use Rattle.std.specs.FinMap as map
-use Rattle.std.specs.List.{filter, filter_map, list_any, AllByRecursion, Contains}
+use Rattle.std.specs.List.{Contains}
 use Rattle.kinds.specs.Alphabet.{Alphabet}
 use Rattle.patterns.specs.Sequences.{Said, hits_in, PlacementIn}
 use Rattle.patterns.proofs.Decisions.{hits_exactly, same_decides}
 use Rattle.records.specs.Book.{Book, said_by, format_in, signatures_of, formats_of}
 use Rattle.records.specs.Entries.{Sequence, Signature, Format}
-use Rattle.records.specs.Report.{folded, equals_label, labelled, names, outranks, tentative, tentative_of, Report, sequence_hits, signature_hits, hitting, format_hits, specific, formats_hitting, struck, unstruck, hit_of, report}
+use Rattle.records.specs.Report.{folded, equals_label, labelled, names, tentative, tentative_of, Report, sequence_hits, signature_hits, hitting, format_hits, specific, formats_hitting, struck, unstruck, hit_of, report}
 use Rattle.records.specs.ReportLaws.{Outranks, Labelled, SequenceHits, SignatureHits, FormatHits, Struck, Listed, Keyed, HitOf, ReportLaws}
 use Rattle.records.specs.declared.report.Hit.{Hit}
-use Rattle.records.specs.declared.report.Status.{Status}
 use Rattle.records.specs.declared.report.Status.TheVariants.{Positive, Tentative, Negative}
 use Rattle.records.proofs.Bodies.{Ranked, format_in_ranked}
 use Rattle.records.proofs.Members.{contains_nil, contains_here, contains_there, contains_cases, contains_filter, contains_map, contains_filter_map, holds_of, any_decides, all_decides, among_decides}

@@ -1,5 +1,5 @@
 -- The ids of what stands in a lawful book rise, and so do those of a report.
-use Rattle.std.proofs.Common.{◌≡◌, ℕ, ◌<◌, Bool, true, false, cond, T, ◌⊎◌, List, [], ◌∷◌, map, Some, None, Option, sym, refl, ap, ◌∙◌, subst, ⊎_elim, arith}
+use Rattle.std.proofs.Common.{◌≡◌, ℕ, ◌<◌, Bool, true, false, cond, T, List, [], ◌∷◌, map, Option, sym, refl, ap, ◌∙◌, subst, ⊎_elim, arith}
 use Rattle.std.specs.FinMap as map
 use Rattle.std.specs.Ordering.{nat_cmp}
 use Rattle.std.specs.List.{filter, filter_map, cons_option, AllByRecursion}
@@ -7,7 +7,7 @@ use Rattle.kinds.specs.Alphabet.{Alphabet}
 use Rattle.records.specs.Book.{Book, format_in, formats_of}
 use Rattle.records.specs.Entries.{Format, Rising}
 use Rattle.records.specs.Lawful.{Lawful, FormatStands}
-use Rattle.records.specs.Report.{labelled, tentative, tentative_of, Report, format_hits, formats_hitting, struck, unstruck, hit_of, report}
+use Rattle.records.specs.Report.{labelled, tentative, tentative_of, Report, format_hits, formats_hitting, unstruck, hit_of, report}
 use Rattle.records.specs.declared.report.Hit.{Hit}
 use Rattle.records.proofs.Books.{sorted_parts}
 use Rattle.records.proofs.Reports.{answer}

@@ -10,22 +10,22 @@ use Rattle.records.specs.Entries.{Signature, Format, Entry, signature, format, p
 use Rattle.records.specs.Reading.{Rest, Read, ◌>>=◌, allowed, bytes_at, byte_at, word_at, text_at, id_allowed, ids_from, ids_at, labels_at, format_at, ended, kind_at, signature_of, format_of, entry_of, entry_at}
 
 -- a step that ends well: the first part did, and then the second
-after_first : {A B : Type 0} (r : Result A ℕ) (then : A → Result B ℕ) (y : B) → (r >>= then) ≡ Ok y → (x : A) × (r ≡ Ok x) × (then x ≡ Ok y)
+pub after_first : {A B : Type 0} (r : Result A ℕ) (then : A → Result B ℕ) (y : B) → (r >>= then) ≡ Ok y → (x : A) × (r ≡ Ok x) × (then x ≡ Ok y)
 after_first (Ok x) then y e = (x, refl, e)
 after_first (Err place) then y e = cc
 
 -- a choice that ends well passed its test
-passed : {A : Type 0} (b : Bool) (x : A) (place : ℕ) (y : A) → ◌≡◌ {A = Result A ℕ} (cond b (Ok x) (Err place)) (Ok y) → (b ≡ true) × (y ≡ x)
+pub passed : {A : Type 0} (b : Bool) (x : A) (place : ℕ) (y : A) → ◌≡◌ {A = Result A ℕ} (cond b (Ok x) (Err place)) (Ok y) → (b ≡ true) × (y ≡ x)
 passed true x place y e = (refl, cc)
 passed false x place y e = cc
 
 -- a field that was allowed was read, and passed the test
-allowed_passes : {A : Type 0} (p : A → Bool) (r : Rest) (field : Read A) (x : A × Rest) → allowed p r field ≡ Ok x → (field ≡ Ok x) × (p x.0 ≡ true)
+pub allowed_passes : {A : Type 0} (p : A → Bool) (r : Rest) (field : Read A) (x : A × Rest) → allowed p r field ≡ Ok x → (field ≡ Ok x) × (p x.0 ≡ true)
 allowed_passes p r (Ok y) x e = let h = passed (p y.0) y r.place x e in (ap (λ z. Ok z) (sym h.1), subst (λ z. p z.0 ≡ true) (sym h.1) h.0)
 allowed_passes p r (Err place) x e = cc
 
 -- what an outcome holds, if it is good
-ok_inside : {A : Type 0} (r : Result A ℕ) (x : A) → result_ok r ≡ Some x → r ≡ Ok x
+pub ok_inside : {A : Type 0} (r : Result A ℕ) (x : A) → result_ok r ≡ Some x → r ≡ Ok x
 ok_inside (Ok y) x e = let is : y ≡ x = cc in ap (λ z. Ok z) is
 ok_inside (Err place) x e = cc
 
@@ -94,7 +94,7 @@ word_taken r x e =
     same ∙ bytes_taken 2 r field.0 field.1
 
 -- behind the head of a record stands its body
-kind_taken : (kinds : ℕ → Bool) (bytes : List ℕ) (x : ℕ × Rest) → kind_at kinds bytes ≡ Ok x → x.1 ≡ record { place = 4; bytes = drop 4 bytes }
+pub kind_taken : (kinds : ℕ → Bool) (bytes : List ℕ) (x : ℕ × Rest) → kind_at kinds bytes ≡ Ok x → x.1 ≡ record { place = 4; bytes = drop 4 bytes }
 unfolding kind_at
 kind_taken kinds bytes x e =
     let whole : Rest = record { place = 0; bytes = bytes } in

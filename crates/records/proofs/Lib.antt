@@ -1,7 +1,8 @@
 pub mod Bodies
 pub mod Books
-pub mod Loops
 pub mod Keeping
+pub mod Lengths
+pub mod Loops
 pub mod Members
 pub mod Reports
 pub mod Rises

@@ -4,6 +4,7 @@
 mod format;
 mod report;
 mod rest;
+mod rules;
 mod signature;
 
 pub use format::{

@@ -1,16 +1,16 @@
 -- What the steps of entering and withdrawing a signature do.
 use Rattle.std.specs.Prelude.{◌≡◌, ℕ, List, [], ◌∷◌, map, length, insert, count_by, nat_lt, Some, None, Option}
 use Rattle.std.specs.FinMap as map
-use Rattle.std.specs.FinMap.{FinMap}
 use Rattle.std.specs.List.{sum_by}
-use Rattle.std.specs.Ordering.{nat_cmp}
+use Rattle.faults.specs.declared.fault.Fault.{Fault}
 use Rattle.kinds.specs.Alphabet.{Alphabet}
 use Rattle.patterns.specs.Sequences.{Said, parts_said}
 use Rattle.engine.specs.Tables.{Slotted, Moved}
 use Rattle.engine.specs.declared.fragment.Fragment.{Fragment}
 use Rattle.records.specs.Book.{Book, said_by}
-use Rattle.records.specs.Entries.{Sequence}
-use Rattle.records.specs.Refusals.{refused_from}
+use Rattle.records.specs.Calls.{after}
+use Rattle.records.specs.Entries.{Sequence, Signature, signature}
+use Rattle.records.specs.Refusals.{entry_refused, refused_from}
 
 -- no text of some sequences is refused, and this is what they are compiled to
 pub record Compiles {E : Type 0} (a : Alphabet E) (qs : List Sequence) (said : List (Option Said)) : Type 0 where
@@ -46,5 +46,13 @@ abbrev pub inserted : List (ℕ × List ℕ) → ℕ → List ℕ → List (ℕ 
 inserted pairs id body = insert pairs (count_by (λ (e : ℕ × List ℕ). nat_lt e.0 id) pairs) (id, body)
 
 -- a book of signatures alone
-abbrev pub signatures_alone : FinMap nat_cmp (List ℕ) → Book
-signatures_alone bodies = record { signatures = bodies; formats = map.empty }
+abbrev pub signatures_alone : List (ℕ × List ℕ) → Book
+signatures_alone pairs = record { signatures = map.from_sorted pairs; formats = map.empty }
+
+-- why a signature is refused where these stand
+abbrev pub signature_refused : {E : Type 0} → Alphabet E → List (ℕ × List ℕ) → Signature → Option Fault
+signature_refused a pairs s = entry_refused a (signatures_alone pairs) (signature s)
+
+-- the pairs of ids and bodies after that, or as they were
+abbrev pub with_entry : Option Fault → List (ℕ × List ℕ) → ℕ → List ℕ → List (ℕ × List ℕ)
+with_entry refused pairs id body = after refused pairs (inserted pairs id body)

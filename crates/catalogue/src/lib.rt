@@ -1,6 +1,9 @@
 //! The catalogue: what stands, and the calls on it.
 #![tactic(auto)]
 
+mod catalogue;
+mod formats;
 mod signatures;
 mod standing;
-mod formats;
+
+pub use catalogue::Catalogue;

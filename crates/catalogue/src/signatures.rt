@@ -10,7 +10,8 @@ ghost use Rattle.records.specs.Calls.{after, unless};
 ghost use Rattle.records.specs.Entries.{signature as signature_entry};
 ghost use Rattle.records.specs.Refusals.{entry_refused, refused_from};
 ghost use Rattle.records.specs.Taken.{signature_in};
-ghost use Rattle.catalogue.specs.Entering.{fragment_total, inserted, Compiles, MovedAll};
+ghost use Rattle.catalogue.specs.Entering.{fragment_total, signature_refused, with_entry, Compiles, MovedAll};
+ghost use Rattle.catalogue.specs.Standing.{signature_pair, SignaturesHold};
 
 use crate::standing::{Standing, place_of};
 use arrayvec::ArrayVec;
@@ -97,4 +98,28 @@ fn move_into<K: Kind>(
         moved.push(sequence.and_then(|s| s.into_table(table).ok()));
     }
     moved
+}
+
+// Enters a signature whose body this is, or refuses it and changes nothing.
+pub(crate) fn enter<K: Kind>(
+    signatures: &mut Vec<StandingSignature<K>>,
+    table: &mut Table,
+    signature: &Signature<'_>,
+    body: &[u8],
+) -> Result<u16, Fault>
+    requires reads { book.signature_in body.now ≡ Some (signature_in signature.now) }
+    requires short { length body.now ≤ 828 }
+    requires room { 24 ≤ vec_capacity signatures.old }
+    requires holds { SignaturesHold K.alphabet signatures.old.items table.old }
+    ensures answer { result ≡ unless
+        (signature_refused K.alphabet (map signature_pair signatures.old.items)
+        (signature_in signature.now)) signature.now.id }
+    ensures pairs { map signature_pair signatures.new.items ≡ with_entry
+        (signature_refused K.alphabet (map signature_pair signatures.old.items)
+        (signature_in signature.now))
+        (map signature_pair signatures.old.items) signature.now.id body.now }
+    ensures holds { SignaturesHold K.alphabet signatures.new.items table.new }
+    ensures room { 24 ≤ vec_capacity signatures.new }
+{
+    Err(Fault::outside(Cause::Taken, 0))
 }

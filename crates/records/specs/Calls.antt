@@ -10,7 +10,7 @@ use Rattle.kinds.specs.Alphabet.{Alphabet}
 use Rattle.patterns.specs.Codes.{codes_of}
 use Rattle.patterns.specs.Sequences.{shown}
 use Rattle.records.specs.Book.{Book, said_by, signature_at}
-use Rattle.records.specs.Entries.{Sequence, Signature, Format, Entry, signature, format, word}
+use Rattle.records.specs.Entries.{Sequence, Signature, Entry, signature, format, word}
 use Rattle.records.specs.Reading.{entry_at}
 use Rattle.records.specs.Refusals.{entry_refused, signature_kept, format_kept, reading_long, hits_short, buffer_short, first_of}
 use Rattle.records.specs.Report.{Report, report}

@@ -3,7 +3,8 @@ use Rattle.std.specs.Prelude.{◌≡◌, ℕ, ◌<◌, ◌≤◌, List, Some, No
 use Rattle.std.specs.FinMap as map
 use Rattle.std.specs.List.{AllByRecursion}
 use Rattle.kinds.specs.Alphabet.{Alphabet}
-use Rattle.records.specs.Book.{Book, signature_in, format_in, fragments_standing}
+use Rattle.records.specs.Book.{Book, empty, signature_in, format_in, fragments_standing}
+use Rattle.records.specs.Calls.{entered, withdrawn_signature, withdrawn_format}
 use Rattle.records.specs.Entries.{Signature, Format}
 use Rattle.records.specs.Refusals.{text_refused, missing_id, most_signatures, most_fragments, most_formats}
 
@@ -30,3 +31,12 @@ pub record Lawful {E : Type 0} (a : Alphabet E) (book : Book) : Type 0 where
   pub few_signatures : map.len book.signatures ≤ most_signatures
   pub few_fragments : fragments_standing a book ≤ most_fragments
   pub few_formats : map.len book.formats ≤ most_formats
+
+-- The theorem: the empty book is lawful, and each call that changes a lawful book leaves a lawful one.
+pub record BooksStayLawful {E : Type 0} (a : Alphabet E) : Type 0 where
+  pub none : Lawful a empty
+  pub entering :
+      (book : Book) (bytes : List ℕ) → AllByRecursion (λ b. b < 256) bytes → Lawful a book
+      → Lawful a (entered a book bytes)
+  pub withdrawing_signature : (book : Book) (id : ℕ) → Lawful a book → Lawful a (withdrawn_signature book id)
+  pub withdrawing_format : (book : Book) (id : ℕ) → Lawful a book → Lawful a (withdrawn_format book id)

@@ -1,5 +1,5 @@
 -- Why a call is refused: the causes in order, of which the first that holds counts.
-use Rattle.std.specs.Prelude.{ℕ, suc, ◌+◌, Bool, if◌then◌else◌, not, List, [], ◌∷◌, length, find, is_some, Some, None, Ok, Err, Option, nat_le, nat_lt}
+use Rattle.std.specs.Prelude.{ℕ, suc, ◌+◌, Bool, if◌then◌else◌, not, List, [], ◌∷◌, find, Some, None, Ok, Err, Option, nat_le, nat_lt}
 use Rattle.std.specs.FinMap as map
 use Rattle.std.specs.Option.{option_map, option_or}
 use Rattle.faults.specs.Faults.{outside}

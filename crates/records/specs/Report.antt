@@ -1,5 +1,5 @@
 -- The report: which signatures and formats hit, and what is listed. Each rule is one definition.
-use Rattle.std.specs.Prelude.{ℕ, ◌+◌, Bool, true, false, if◌then◌else◌, not, ◌&&◌, List, [], map, length, filter, Some, None, ◌==◌}
+use Rattle.std.specs.Prelude.{ℕ, ◌+◌, Bool, false, if◌then◌else◌, not, ◌&&◌, List, [], map, length, filter, Some, None, ◌==◌}
 use Rattle.std.specs.List.{list_all, list_any}
 use Rattle.kinds.specs.Alphabet.{Alphabet, within}
 use Rattle.patterns.specs.Patterns.{same}

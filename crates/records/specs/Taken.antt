@@ -1,13 +1,18 @@
 -- What the code reads from records, in the words of `Reading`.
-use Rattle.std.specs.Prelude.{◌≡◌, ℕ, Bool, true, List, map, Ok, Err, Result}
+use Rattle.std.specs.Prelude.{◌≡◌, ℕ, Bool, true, List, map, Ok, Err, Result, ◌==◌}
+use Rattle.std.specs.List.{list_any}
 use Rattle.faults.specs.Faults.{outside}
 use Rattle.faults.specs.declared.fault.Cause.TheVariants.{Field}
 use Rattle.faults.specs.declared.fault.Fault.{Fault}
+use Rattle.kinds.specs.Alphabet.{Alphabet}
 use Rattle.records.specs.Entries as entry
 use Rattle.records.specs.Entries.{printable, label_character}
 use Rattle.records.specs.Reading as reading
 use Rattle.records.specs.declared.format.Format.{Format}
 use Rattle.records.specs.declared.format.Label.{Label}
+use Rattle.records.specs.declared.record.Entry.{Entry}
+use Rattle.records.specs.declared.record.Entry.TheVariants as entered
+use Rattle.records.specs.declared.record.Record.{Record}
 use Rattle.records.specs.declared.rest.Characters.{Characters}
 use Rattle.records.specs.declared.rest.Characters.TheVariants.{Any, Printable, LowercaseOrDigit}
 use Rattle.records.specs.declared.rest.Rest.{Rest}
@@ -57,3 +62,30 @@ labels_in ls = map label_in ls
 abbrev pub format_in : Format → entry.Format
 format_in f =
     record { id = f.id; name = f.name.items; signatures = f.signatures.items; outranked = f.outranked.items; labels = labels_in f.labels.items }
+
+-- the kind of a record, and its body from its place on
+abbrev pub kind_and_body : Record → ℕ × reading.Rest
+kind_and_body r = (r.kind, record { place = 4; bytes = r.body.now })
+
+-- one of the kinds that are wanted
+abbrev pub wanted_in : List ℕ → ℕ → Bool
+wanted_in kinds kind = list_any (λ k. k == kind) kinds
+
+-- an entry
+abbrev pub entry_in : Entry → entry.Entry
+entry_in (entered.Signature s) = entry.signature (signature_in s)
+entry_in (entered.Format f) = entry.format (format_in f)
+
+-- what reading answers
+abbrev pub answer_in : Result Entry Fault → Result entry.Entry Fault
+answer_in (Ok e) = Ok (entry_in e)
+answer_in (Err f) = Err f
+
+-- what is read, or the fault of the field at the place that is at fault
+abbrev pub or_field : {A : Type 0} → Result A ℕ → Result A Fault
+or_field (Ok x) = Ok x
+or_field (Err place) = Err (outside Field place)
+
+-- the entry of a record, or the refusal of the first field at fault
+abbrev pub entry_read : {E : Type 0} → Alphabet E → List ℕ → Result entry.Entry Fault
+entry_read a bytes = or_field (reading.entry_at a bytes)

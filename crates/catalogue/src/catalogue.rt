@@ -1,0 +1,92 @@
+//! The catalogue and the calls on it.
+ghost use Rattle.std.specs.Prelude.{◌≡◌, IfOk, length};
+ghost use Rattle.records.specs.Book.{empty};
+ghost use Rattle.records.specs.Calls.{entered, entering, identified, identifying, showing};
+ghost use Rattle.records.specs.Calls.{withdrawing_format, withdrawing_signature};
+ghost use Rattle.records.specs.Calls.{withdrawn_format, withdrawn_signature, writing, wrote};
+ghost use Rattle.records.specs.Lawful.{Lawful};
+
+use crate::formats::StandingFormat;
+use crate::signatures::{self, StandingSignature};
+use engine::Table;
+use faults::{Cause, Fault};
+use kinds::{Kind, Reading};
+use records::{Entry, Hit, Status, read};
+use std::alloc::{AllocError, Global};
+use std::marker::{Model, PhantomData};
+
+/// A catalogue holds at most this many signatures.
+pub const MOST_SIGNATURES: usize = 24;
+
+/// A catalogue holds at most this many formats.
+pub const MOST_FORMATS: usize = 48;
+
+/// A reading has at most this many elements.
+pub const LONGEST_READING: u32 = 16_777_216;
+
+/// A catalogue of signatures and formats over elements of a kind (docs/CATALOGUE.md).
+///
+/// In contracts it is its book: the bodies of the signatures and formats that stand, by their ids.
+#[derive(Drop)]
+pub struct Catalogue<K: Kind> {
+    signatures: Vec<StandingSignature<K>>,
+    formats: Vec<StandingFormat>,
+    table: Table,
+    kind: PhantomData<K>,
+}
+
+impl<K: Kind> Model for Catalogue<K> {
+    ghost use Rattle.std.specs.Prelude.{◌≤◌};
+    ghost use Rattle.std.specs.Vec.{vec_capacity};
+    ghost use Rattle.records.specs.Book.{Book, book_code};
+
+    ghost Value = { Book };
+
+    ghost coded = { book_code };
+
+    ghost use Rattle.catalogue.specs.Standing.{Holds, book_in};
+
+    ghost view = { λ c. book_in c.signatures.items c.formats.items };
+
+    ghost invariant = { λ c. Holds K.alphabet c.signatures.items c.formats.items c.table
+        × (24 ≤ vec_capacity c.signatures) × (48 ≤ vec_capacity c.formats) };
+}
+
+impl<K: Kind> Catalogue<K> {
+    /// An empty catalogue, or `AllocError` where there is no memory for all that it may hold, about
+    /// half a megabyte. That the memory is found when there is some is not proved. No other call
+    /// needs memory.
+    pub fn new(alloc: Global) -> Result<Catalogue<K>, AllocError>
+        ensures { IfOk result (λ c. c ≡ empty) }
+    {
+        Ok(Catalogue {
+            signatures: Vec::with_capacity(alloc, MOST_SIGNATURES)?,
+            formats: Vec::with_capacity(alloc, MOST_FORMATS)?,
+            table: Table::new(alloc)?,
+            kind: PhantomData,
+        })
+    }
+
+    /// Enters the signature or format of a record, and answers its id. A record that is refused
+    /// changes nothing.
+    pub fn enter(&mut self, bytes: &[u8]) -> Result<u16, Fault>
+        ensures answer { result ≡ entering K.alphabet self.old bytes.now }
+        ensures stands { self.new ≡ entered K.alphabet self.old bytes.now }
+    {
+        let body = &bytes[4..];
+        match read::<K>(bytes)? {
+            Entry::Signature(signature) => {
+                signatures::enter(&mut self.signatures, &mut self.table, &signature, body)
+            }
+            Entry::Format(_) => Err(Fault::outside(Cause::Taken, 0)),
+        }
+    }
+
+    /// Every catalogue is lawful: each body that stands can be entered again, what it names stands,
+    /// and the counts are within their bounds.
+    pub fn is_empty(&self) -> bool
+        ensures lawful { Lawful K.alphabet self.now }
+    {
+        self.signatures.is_empty() && self.formats.is_empty()
+    }
+}

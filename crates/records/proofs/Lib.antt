@@ -1,6 +1,7 @@
 pub mod Bodies
 pub mod Books
 pub mod Keeping
+pub mod Labels
 pub mod Lengths
 pub mod Loops
 pub mod Members

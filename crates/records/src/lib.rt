@@ -6,6 +6,7 @@ mod record;
 mod report;
 pub mod report_laws;
 mod rest;
+mod rules;
 mod signature;
 #[cfg(test)]
 mod tests;

@@ -89,3 +89,40 @@ pub(crate) fn first_outranking(formats: &[StandingFormat], format: u16) -> Optio
         .find(|f| f.format.outranks(format))
         .map(|f| f.format.id)
 }
+
+// Enters a format whose body this is, or refuses it and changes nothing.
+pub(crate) fn enter<S: Standing>(
+    formats: &mut Vec<StandingFormat>,
+    signatures: &[S],
+    format: Format,
+    body: &[u8],
+) -> Result<u16, Fault>
+    requires reads { book.format_in body.now ≡ Some (format_in format) }
+    requires short { length body.now ≤ 114 }
+    requires signatures_rise { Rise (map S.pair signatures.now) }
+    requires room { 48 ≤ vec_capacity formats.old }
+    requires holds { FormatsHold formats.old.items }
+    ensures answer { result ≡ unless
+        (format_refused (book_of (map S.pair signatures.now) (map format_pair formats.old.items))
+        (format_in format)) format.id }
+    ensures pairs { map format_pair formats.new.items ≡ with_entry
+        (format_refused (book_of (map S.pair signatures.now) (map format_pair formats.old.items))
+        (format_in format))
+        (map format_pair formats.old.items) format.id body.now }
+    ensures holds { FormatsHold formats.new.items }
+    ensures room { 48 ≤ vec_capacity formats.new }
+{
+    Err(Fault::outside(Cause::Taken, 0))
+}
+
+// Withdraws the format at a place.
+pub(crate) fn withdraw(formats: &mut Vec<StandingFormat>, place: usize)
+    requires stands { place < vec_len formats.old }
+    requires holds { FormatsHold formats.old.items }
+    requires room { 48 ≤ vec_capacity formats.old }
+    ensures pairs { map format_pair formats.new.items ≡
+        remove (map format_pair formats.old.items) place }
+    ensures holds { FormatsHold formats.new.items }
+    ensures room { 48 ≤ vec_capacity formats.new }
+{
+}

@@ -1,7 +1,7 @@
 //! Signatures that stand.
-ghost use Rattle.std.specs.Prelude.{◌≡◌, ◌≤◌, Some, IfOk, IfErr, length, map};
+ghost use Rattle.std.specs.Prelude.{◌≡◌, ◌<◌, ◌≤◌, Some, IfOk, IfErr, length, map, remove};
 ghost use Rattle.std.specs.List.{list_all, AllByRecursion};
-ghost use Rattle.std.specs.Vec.{vec_capacity};
+ghost use Rattle.std.specs.Vec.{vec_capacity, vec_len};
 ghost use Rattle.patterns.specs.Codes.{codes_of};
 ghost use Rattle.patterns.specs.Sequences.{hits_in};
 ghost use Rattle.engine.specs.Tables.{free_slots, StandsIn};
@@ -10,7 +10,7 @@ ghost use Rattle.records.specs.Calls.{after, unless};
 ghost use Rattle.records.specs.Entries.{signature as signature_entry};
 ghost use Rattle.records.specs.Refusals.{entry_refused, refused_from};
 ghost use Rattle.records.specs.Taken.{signature_in};
-ghost use Rattle.catalogue.specs.Entering.{fragment_total, signature_refused, with_entry, Compiles, MovedAll};
+ghost use Rattle.catalogue.specs.Entering.{fragment_count, fragment_total, signature_refused, with_entry, Compiles, MovedAll, MovedIf};
 ghost use Rattle.catalogue.specs.Standing.{signature_pair, SignaturesHold};
 
 use crate::standing::{Standing, place_of};
@@ -85,6 +85,14 @@ fn count_fragments<K: Kind>(sequences: &[Option<Sequence<K>>]) -> usize
     total
 }
 
+// Moves a sequence, if there is one, into a table that has room for its fragments.
+fn move_one<K: Kind>(sequence: Option<Sequence<K>>, table: &mut Table) -> Option<InTable<K>>
+    requires { fragment_count sequence ≤ length (free_slots table.old) }
+    ensures { MovedIf sequence table.old table.new result }
+{
+    sequence?.into_table(table).ok()
+}
+
 // Moves sequences into a table that has room for their fragments.
 fn move_into<K: Kind>(
     sequences: ArrayVec<Option<Sequence<K>>, MOST_SEQUENCES>,
@@ -95,7 +103,7 @@ fn move_into<K: Kind>(
 {
     let mut moved = ArrayVec::new();
     for sequence in sequences {
-        moved.push(sequence.and_then(|s| s.into_table(table).ok()));
+        moved.push(move_one(sequence, table));
     }
     moved
 }
@@ -122,4 +130,20 @@ pub(crate) fn enter<K: Kind>(
     ensures room { 24 ≤ vec_capacity signatures.new }
 {
     Err(Fault::outside(Cause::Taken, 0))
+}
+
+// Withdraws the signature at a place, and frees its fragments.
+pub(crate) fn withdraw<K: Kind>(
+    signatures: &mut Vec<StandingSignature<K>>,
+    table: &mut Table,
+    place: usize,
+)
+    requires stands { place < vec_len signatures.old }
+    requires holds { SignaturesHold K.alphabet signatures.old.items table.old }
+    requires room { 24 ≤ vec_capacity signatures.old }
+    ensures pairs { map signature_pair signatures.new.items ≡
+        remove (map signature_pair signatures.old.items) place }
+    ensures holds { SignaturesHold K.alphabet signatures.new.items table.new }
+    ensures room { 24 ≤ vec_capacity signatures.new }
+{
 }

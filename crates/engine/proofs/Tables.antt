@@ -1,8 +1,9 @@
 -- Slots of a table: which are free, what stands in one, and what setting and freeing them changes.
-use Rattle.std.proofs.Common.{◌≡◌, ℕ, zero, suc, ◌+◌, ◌<◌, ◌≤◌, cond, ltb, List, [], ◌∷◌, ◌++◌, map, length, set, get_or, take, replicate, Some, None, Option, zero-add, sym, refl, ap, ◌∙◌, subst, ⊎_elim, arith}
-use Rattle.std.specs.List.{slice_get, filter, position, position_or_len, Contains}
-use Rattle.std.specs.Option.{is_none, option_map, option_and_then}
+use Rattle.std.proofs.Common.{◌≡◌, ℕ, zero, suc, ◌+◌, ◌<◌, ◌≤◌, cond, ltb, List, [], ◌∷◌, ◌++◌, map, length, set, get_or, take, replicate, Some, None, Option, zero-add, add-zero, sym, refl, ap, ◌∙◌, subst, ⊎_elim, arith}
+use Rattle.std.specs.List.{slice_get, filter, position, position_or_len, AllByRecursion, Contains}
+use Rattle.std.specs.Option.{is_none, is_some, option_map, option_and_then, IsSome}
 use Rattle.std.proofs.lemmas.List.{set-set, length_push, length-take, length-map, replicate_more, append-nil, append_assoc, map-append, get_or-take, take_at}
+use Rattle.std.proofs.lemmas.List.Elements.{Contains-append_left}
 use Rattle.std.proofs.lemmas.Bool.{cases_lt, lt-ltb, le-ltb}
 use Rattle.std.proofs.lemmas.Option.{none-some, slice_get-get_or, slice_get_within, get_or_from_slice_get}
 use Rattle.kinds.proofs.Places.{nth_none}
@@ -12,7 +13,7 @@ use Rattle.engine.specs.Reading.{held}
 use Rattle.patterns.specs.Sequences.{Said, parts_said}
 use Rattle.engine.specs.Said.{said, parts, HoldsOwn, HoldsAt}
 use Rattle.engine.specs.Searched.{HoldsIf}
-use Rattle.engine.specs.Tables.{free_from, free_slots, at_slot, at_slots, cleared, Slotted, StandsIn, Moved, Apart, StandsOn}
+use Rattle.engine.specs.Tables.{free_from, free_slots, at_slot, at_slots, cleared, Slotted, StandsIn, Moved, IsFilled, Distinct, Apart, StandsOn}
 use Rattle.engine.specs.declared.fragment.Fragment.{Fragment}
 use Rattle.engine.specs.declared.oriented.Oriented.{Oriented}
 use Rattle.engine.proofs.Shows.{counted, held_each, holds_said}
@@ -151,6 +152,32 @@ module _ {X : Type 0} where
       at_cleared (set t r None) rs j (λ (k, h, e). away (suc k, omega arith, e))
       ∙ at_other t r j None (λ e. away (zero, omega arith, e))
 
+  -- a slot that holds a fragment and is freed is one more that is free
+  clear_counted : (n : ℕ) (t : List (Option X)) (i : ℕ) → IsFilled t i → length (free_from n (set t i None)) ≡ suc (length (free_from n t))
+  clear_counted n [] i f = absurd (cc)
+  clear_counted n (None ∷ t) zero f = absurd (cc)
+  clear_counted n (Some x ∷ t) zero f = refl
+  clear_counted n (None ∷ t) (suc i) f = ap suc (clear_counted (suc n) t i f)
+  clear_counted n (Some x ∷ t) (suc i) f = clear_counted (suc n) t i f
+
+  -- slots go on to hold fragments where another slot is set
+  filled_beside : (t : List (Option X)) (slots : List ℕ) (i : ℕ) (y : Option X) → ¬ (Contains slots i) → AllByRecursion (IsFilled t) slots
+      → AllByRecursion (IsFilled (set t i y)) slots
+  filled_beside t [] i y away f = tt
+  filled_beside t (s ∷ ss) i y away f = (
+    subst IsSome (sym (at_other t i s y (λ e. away (zero, omega arith, sym e)))) f.0,
+    filled_beside t ss i y (λ (k, h, e). away (suc k, omega arith, e)) f.1,
+  )
+
+  -- distinct slots that hold fragments and are freed are so many more that are free
+  cleared_counted : (t : List (Option X)) (slots : List ℕ) → Distinct slots → AllByRecursion (IsFilled t) slots
+      → length (free_slots (cleared t slots)) ≡ length (free_slots t) + length slots
+  cleared_counted t [] d f = sym (add-zero (length (free_slots t)))
+  cleared_counted t (s ∷ ss) d f =
+      let one = clear_counted 0 t s f.0 in
+      let rest = cleared_counted (set t s None) ss d.1 (filled_beside t ss s None d.0 f.1) in
+      omega arith
+
   -- a slot in the list of the free ones is free
   free_stands : (n : ℕ) (t : List (Option X)) (k : ℕ) (j : ℕ) → k < length (free_from n t) → get_or (free_from n t) k j ≡ j → (i : ℕ) × (j ≡ n + i) × (at_slot t i ≡ None)
   free_stands n [] k j h e = absurd (omega arith)
@@ -161,6 +188,12 @@ module _ {X : Type 0} where
   free_stands n (Some x ∷ t) k j h e =
       let f = free_stands (suc n) t k j h e in
       (suc f.0, omega (arith, f.1), f.2)
+
+  -- the free slots are distinct
+  free_distinct : (n : ℕ) (t : List (Option X)) → Distinct (free_from n t)
+  free_distinct n [] = tt
+  free_distinct n (None ∷ t) = (λ (k, h, e). let f = free_stands (suc n) t k n h e in absurd (omega (arith, f.1)), free_distinct (suc n) t)
+  free_distinct n (Some x ∷ t) = free_distinct (suc n) t
 
   -- nothing stands in one of the first free slots
   pub none_at_free : (n : ℕ) (t : List (Option X)) (j : ℕ) → Contains (take n (free_slots t)) j → at_slot t j ≡ None
@@ -249,6 +282,7 @@ moved o fs own {before} {t} {slots} {so_far} {rest} f is none =
     record {
       same = refl;
       first = sym (take_at slots (free_slots t) _ long) ∙ ap (take (length (parts_said (said o)))) f.free;
+      free = f.free;
       stands = stands_in o fs own before t slots put;
       others = f.freed;
     }
@@ -256,6 +290,15 @@ moved o fs own {before} {t} {slots} {so_far} {rest} f is none =
 -- a compiled fragment, if there is one, holds a fragment of a sequence, if there is one
 abbrev HeldIf : Said → Option Fragment → Option spec.Fragment → Type 0
 HeldIf s p q = HoldsIf s.reference (oriented s.reference s.items) p q
+
+-- the front of a list of distinct slots
+front_distinct : (slots rest : List ℕ) → Distinct (slots ++ rest) → Distinct slots
+front_distinct [] rest d = tt
+front_distinct (s ∷ ss) rest d = (λ h. d.0 (Contains-append_left ss rest s h), front_distinct ss rest d.1)
+
+-- a sequence that is moved into a table gets distinct slots
+distinct_moved : (s : Said) (before after : List (Option Fragment)) (v : Slotted) → Moved s before after v → Distinct v.slots
+distinct_moved s before after v m = front_distinct v.slots (free_slots after) (subst Distinct (sym m.free) (free_distinct 0 before))
 
 -- in each slot of a sequence that stands in a table a fragment stands
 stands_slot : (v : Slotted) (t : List (Option Fragment)) → StandsIn t v → (k slot : ℕ) → slice_get v.slots k ≡ Some slot → (f : Fragment) × (at_slot t slot ≡ Some f)
@@ -269,6 +312,14 @@ stands_slot v t h k slot e =
         let inside = slice_get_within v.slots k slot e in
         absurd (omega (arith, nth_none (parts_said v.said) k there, h.counted))
     found None (Some g) is there holds = absurd holds
+
+-- each slot of a sequence that stands in a table holds a fragment
+stands_filled : (t : List (Option Fragment)) (v : Slotted) → StandsIn t v → AllByRecursion (IsFilled t) v.slots
+stands_filled t v h = each v.slots (λ k slot e. let (f, is) = stands_slot v t h k slot e in ap is_some is)
+  where
+    each : (slots : List ℕ) → ((k slot : ℕ) → slice_get slots k ≡ Some slot → IsFilled t slot) → AllByRecursion (IsFilled t) slots
+    each [] there = tt
+    each (s ∷ ss) there = (there zero s refl, each ss (λ k slot e. there (suc k) slot e))
 
 -- a sequence stands in another table too where in its slots there stands what stood there
 stands_too : (v : Slotted) (t u : List (Option Fragment)) → StandsIn t v
@@ -319,4 +370,7 @@ stands_on = record {
   moved_in = λ s before after v w h m. (stands_moved s before after v w h m, apart_moved s before after v w h m);
   set_beside = stands_set;
   freed_beside = stands_cleared;
+  distinct = distinct_moved;
+  filled = stands_filled;
+  freed = cleared_counted;
 }

@@ -1,5 +1,5 @@
 //! Sequences: pattern texts, compiled for their search.
-ghost use Rattle.std.specs.Prelude.{◌≡◌, ◌↔◌, IsTrue, length};
+ghost use Rattle.std.specs.Prelude.{◌≡◌, ◌≤◌, ◌↔◌, IsTrue, length};
 ghost use Rattle.patterns.specs.Codes.{codes_of};
 
 use crate::fragment::Fragment;
@@ -72,9 +72,10 @@ impl<K: Kind> Sequence<K> {
         })
     }
 
-    /// How many fragments the sequence has.
+    /// How many fragments the sequence has, at most eight.
     pub fn fragment_count(&self) -> usize
-        ensures { result ≡ length (parts_said self.now) }
+        ensures value { result ≡ length (parts_said self.now) }
+        ensures few { result ≤ 8 }
     {
         self.fragments.len()
     }

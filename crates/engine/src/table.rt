@@ -1,5 +1,5 @@
 //! A table of compiled fragments, and the sequences whose fragments stand in it.
-ghost use Rattle.std.specs.Prelude.{◌≡◌, ◌<◌, ◌↔◌, IfOk, IsTrue, Some, None, length, replicate, slice_set};
+ghost use Rattle.std.specs.Prelude.{◌≡◌, ◌<◌, ◌≤◌, ◌↔◌, IfOk, IsTrue, Some, None, length, replicate, slice_set};
 ghost use Rattle.std.specs.List.{slice_get};
 ghost use Rattle.std.specs.Option.{option_copied};
 ghost use Rattle.patterns.specs.Codes.{codes_of};
@@ -12,6 +12,7 @@ use crate::search::{Fragments, found, numbers};
 use crate::sequence::Sequence;
 use arrayvec::ArrayVec;
 use kinds::{Kind, Reading};
+use patterns::Reference;
 use std::alloc::{AllocError, Global};
 use std::marker::{Model, PhantomData};
 
@@ -174,9 +175,17 @@ impl<K: Kind> InTable<K> {
     ghost use Rattle.patterns.specs.Sequences.{hits_in, PlacementIn, parts_said, shown};
     ghost use Rattle.engine.specs.Tables.{StandsIn, cleared};
 
-    /// How many fragments the sequence has.
+    /// Where the sequence is looked for.
+    pub fn reference(&self) -> Reference
+        ensures { result ≡ self.now.said.reference }
+    {
+        self.oriented.reference
+    }
+
+    /// How many fragments the sequence has, at most eight.
     pub fn fragment_count(&self) -> usize
-        ensures { result ≡ length (parts_said self.now.said) }
+        ensures value { result ≡ length (parts_said self.now.said) }
+        ensures few { result ≤ 8 }
     {
         self.slots.len()
     }

@@ -23,7 +23,8 @@ pub fn tokens_are_the_text<K: Kind>() -> bool
     true
 }
 
-/// A sequence that stands in a table goes on to stand in it as long as its slots are left alone.
+/// A sequence that stands in a table goes on to stand in it as long as its slots are left alone. Its
+/// slots are distinct and hold fragments, and where slots that do are freed, as many more are free.
 pub fn stands_on() -> bool
     ensures theorem { StandsOn }
     ensures answer { result ≡ true }

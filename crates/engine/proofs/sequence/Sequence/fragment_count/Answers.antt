@@ -3,7 +3,7 @@ use Rattle.patterns.specs.Sequences.{parts_said}
 use Rattle.engine.proofs.Shows.{counted}
 use Rattle.engine.proofs.sequence.Sequence.fragment_count.Goals as goal
 
-pub returns : goal.returns
-returns g c =
+pub returns-clause-value : goal.returns-clause-value
+returns-clause-value g c =
     let s = c.self.inside in
     c.len.ensures.value ∙ counted s.oriented s.fragments.items c.self.invariant ∙ ap (λ v. length (parts_said v)) c.self.view_is

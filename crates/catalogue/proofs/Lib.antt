@@ -1,1 +1,2 @@
+pub mod Composing
 pub mod Moving

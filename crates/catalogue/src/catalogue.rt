@@ -74,11 +74,12 @@ impl<K: Kind> Catalogue<K> {
         ensures answer { result ≡ entering K.alphabet self.old bytes.now }
         ensures stands { self.new ≡ entered K.alphabet self.old bytes.now }
     {
-        match read::<K>(bytes)? {
-            (Entry::Signature(signature), body) => {
+        let (entry, body) = read::<K>(bytes)?;
+        match entry {
+            Entry::Signature(signature) => {
                 signatures::enter(&mut self.signatures, &mut self.table, &signature, body)
             }
-            (Entry::Format(format), body) => {
+            Entry::Format(format) => {
                 formats::enter(&mut self.formats, &self.signatures, format, body)
             }
         }

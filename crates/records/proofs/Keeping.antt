@@ -27,12 +27,12 @@ use Rattle.records.proofs.Members.{contains_map, contains_filter_map, holds_of, 
 -- Refusals that do not hold.
 
 -- of two choices, neither is there
-neither : {A : Type 0} (o p : Option A) → option_or o p ≡ None → (o ≡ None) × (p ≡ None)
+pub neither : {A : Type 0} (o p : Option A) → option_or o p ≡ None → (o ≡ None) × (p ≡ None)
 neither None p e = (refl, e)
 neither (Some x) p e = cc
 
 -- a refusal that is not there failed its test
-not_refused : (b : Bool) (f : Fault) → refused_if b f ≡ None → b ≡ false
+pub not_refused : (b : Bool) (f : Fault) → refused_if b f ≡ None → b ≡ false
 not_refused true f e = cc
 not_refused false f e = refl
 

@@ -1,15 +1,23 @@
 -- What standing entries say of their book.
-use Rattle.std.proofs.Common.{◌≡◌, ℕ, Bool, true, false, cond, ◌||◌, ◌==◌, List, [], ◌∷◌, map, Some, None, Option, is_some, sym, refl, ap, ◌∙◌, arith}
+use Rattle.std.proofs.Common.{◌≡◌, ℕ, ◌<◌, Bool, true, false, cond, ◌||◌, ◌==◌, List, [], ◌∷◌, map, length, Some, None, Option, is_some, nat_le, sym, refl, ap, ◌∙◌, arith}
 use Rattle.std.proofs.lemmas.Bool.Decides.{nat_tests}
+use Rattle.std.proofs.lemmas.List.{length-map}
 use Rattle.std.specs.FinMap as map
 use Rattle.std.specs.FinMap.{find as find_key}
-use Rattle.std.specs.List.{find, list_any}
-use Rattle.std.specs.Option.{option_map, MatchOption, IsSomeAnd}
+use Rattle.std.specs.List.{find, filter_map, cons_option, list_any, AllByRecursion}
+use Rattle.std.specs.Option.{option_map, option_or, MatchOption, IsSomeAnd}
 use Rattle.std.specs.Ordering.{nat_cmp, eq_by_cmp}
-use Rattle.records.proofs.Labels.{list_any-map}
+use Rattle.faults.specs.Faults.{outside}
+use Rattle.faults.specs.declared.fault.Cause.TheVariants.{Taken, Full}
+use Rattle.faults.specs.declared.fault.Fault.{Fault}
+use Rattle.records.specs.Book as book
+use Rattle.records.specs.Book.{Book, formats_of}
 use Rattle.records.specs.Entries.{Format}
+use Rattle.records.specs.Refusals.{refused_if, names_missing, formats_full, format_refused}
 use Rattle.records.specs.Taken.{format_in}
-use Rattle.catalogue.specs.Standing.{bodies, formats_in, Rise}
+use Rattle.records.proofs.Books.{len_made, values_made}
+use Rattle.records.proofs.Labels.{list_any-map}
+use Rattle.catalogue.specs.Standing.{bodies, book_of, format_pair, formats_in, FormatHeld, FormatsHold, Rise}
 use Rattle.catalogue.specs.declared.formats.StandingFormat.{StandingFormat}
 
 -- two numbers tie where they are the same
@@ -55,3 +63,30 @@ pub mapped : {A X Y : Type 0} (view : A → X) (f : X → Y) (P : A → Y → Ty
 mapped view f P None r h gives = h
 mapped view f P (Some x) None h gives = absurd h
 mapped view f P (Some x) (Some y) h gives = ap (λ z. Some z) (gives x y h)
+
+-- as many ids stand as there are entries
+pub len-bodies : {S : Type 0} (pair : S → ℕ × List ℕ) (xs : List S) → Rise (map pair xs) → map.len (bodies (map pair xs)) ≡ length xs
+len-bodies pair xs rise = len_made (map pair xs) rise ∙ length-map xs pair
+
+-- the formats of a book are those of the standing formats
+pub formats_of-book_of : (pairs : List (ℕ × List ℕ)) (formats : List StandingFormat) → FormatsHold formats → formats_of (book_of pairs (map format_pair formats)) ≡ formats_in formats
+formats_of-book_of pairs formats holds = ap (filter_map book.format_in) (values_made (map format_pair formats) holds.rise) ∙ read formats holds.held
+  where
+    read : (fs : List StandingFormat) → AllByRecursion FormatHeld fs → filter_map book.format_in (map (λ (e : ℕ × List ℕ). e.1) (map format_pair fs)) ≡ formats_in fs
+    read [] held = refl
+    read (f ∷ fs) held =
+        ap (λ (o : Option Format). cons_option o (filter_map book.format_in (map (λ (e : ℕ × List ℕ). e.1) (map format_pair fs)))) held.0
+        ∙ ap (λ (gs : List Format). format_in f.format ∷ gs) (read fs held.1)
+
+-- a format that is not refused has a new id, and there is room for it
+pub accepted : (book : Book) (f : Format) → format_refused book f ≡ None → (map.contains_key book.formats f.id ≡ false) × (map.len book.formats < 48)
+accepted book f none =
+    elim (map.contains_key book.formats f.id) as (λ (b : Bool). option_or (refused_if b (outside Taken f.id)) (option_or (names_missing book f) (option_or (formats_full book) None)) ≡ None → (b ≡ false) × (map.len book.formats < 48)) [
+      | true ↦ λ e. cc
+      | false ↦ λ e. (refl, room (names_missing book f) (nat_le 48 (map.len book.formats)) refl e)
+    ] none
+  where
+    room : (missing : Option Fault) (b : Bool) → nat_le 48 (map.len book.formats) ≡ b → option_or missing (option_or (refused_if b (outside Full 3)) None) ≡ None → map.len book.formats < 48
+    room (Some m) b is e = cc
+    room None true is e = cc
+    room None false is e = grind (arith, nat_tests)

@@ -44,11 +44,6 @@ nothing_holds a = record {
 
 -- Entering.
 
--- the bytes of a slice are below 256
-pub bytes_below : (bytes : List ℕ) → ((i : ℕ) → Fits w8 (get_or bytes i 0)) → AllByRecursion (λ b. b < 256) bytes
-bytes_below [] fits = tt
-bytes_below (b ∷ bytes) fits = (omega (arith, fits 0), bytes_below bytes (λ i. fits (suc i)))
-
 -- to enter a new id is to insert it at its place
 put_in : (pairs : List (ℕ × List ℕ)) (id : ℕ) (body : List ℕ) → Rise pairs → finite.contains_key (bodies pairs) id ≡ false
     → bodies (inserted pairs id body) ≡ finite.insert (bodies pairs) id body

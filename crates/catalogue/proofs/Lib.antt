@@ -1,2 +1,4 @@
+pub mod Changes
 pub mod Composing
+pub mod Held
 pub mod Moving

@@ -90,6 +90,29 @@ pub(crate) fn first_outranking(formats: &[StandingFormat], format: u16) -> Optio
         .map(|f| f.format.id)
 }
 
+// Why a format is refused, if it is.
+fn refusal<S: Standing>(
+    signatures: &[S],
+    formats: &[StandingFormat],
+    format: &Format,
+) -> Option<Fault>
+    requires signatures_rise { Rise (map S.pair signatures.now) }
+    requires formats_rise { Rise (map format_pair formats.now) }
+    ensures { result ≡ format_refused
+        (book_of (map S.pair signatures.now) (map format_pair formats.now)) (format_in format.now) }
+{
+    if stands(formats, format.id) {
+        return Some(Fault::outside(Cause::Taken, usize::from(format.id)));
+    }
+    if let Some(id) = missing(signatures, formats, format) {
+        return Some(Fault::outside(Cause::Missing, usize::from(id)));
+    }
+    if formats.len() >= MOST_FORMATS {
+        return Some(Fault::outside(Cause::Full, 3));
+    }
+    None
+}
+
 // Enters a format whose body this is, or refuses it and changes nothing.
 pub(crate) fn enter<S: Standing>(
     formats: &mut Vec<StandingFormat>,
@@ -100,29 +123,38 @@ pub(crate) fn enter<S: Standing>(
     requires reads { book.format_in body.now ≡ Some (format_in format) }
     requires short { length body.now ≤ 114 }
     requires signatures_rise { Rise (map S.pair signatures.now) }
-    requires room { 48 ≤ vec_capacity formats.old }
     requires holds { FormatsHold formats.old.items }
+    requires room { 48 ≤ vec_capacity formats.old }
     ensures answer { result ≡ unless
         (format_refused (book_of (map S.pair signatures.now) (map format_pair formats.old.items))
         (format_in format)) format.id }
     ensures pairs { map format_pair formats.new.items ≡ with_entry
         (format_refused (book_of (map S.pair signatures.now) (map format_pair formats.old.items))
-        (format_in format))
-        (map format_pair formats.old.items) format.id body.now }
+        (format_in format)) (map format_pair formats.old.items) format.id body.now }
     ensures holds { FormatsHold formats.new.items }
     ensures room { 48 ≤ vec_capacity formats.new }
 {
-    Err(Fault::outside(Cause::Taken, 0))
+    if let Some(fault) = refusal(signatures, formats, &format) {
+        return Err(fault);
+    }
+    let id = format.id;
+    let place = place_of(formats, id);
+    let Ok(body) = ArrayVec::try_from(body) else {
+        unreachable!()
+    };
+    match formats.insert(place, StandingFormat { format, body }) {
+        Ok(()) => Ok(id),
+        Err(_) => unreachable!(),
+    }
 }
 
-// Withdraws the format at a place.
+// Takes out the format at a place.
 pub(crate) fn withdraw(formats: &mut Vec<StandingFormat>, place: usize)
-    requires stands { place < vec_len formats.old }
+    requires within { place < vec_len formats.old }
     requires holds { FormatsHold formats.old.items }
-    requires room { 48 ≤ vec_capacity formats.old }
-    ensures pairs { map format_pair formats.new.items ≡
-        remove (map format_pair formats.old.items) place }
+    ensures items { formats.new.items ≡ remove formats.old.items place }
     ensures holds { FormatsHold formats.new.items }
-    ensures room { 48 ≤ vec_capacity formats.new }
+    ensures capacity { vec_capacity formats.new ≡ vec_capacity formats.old }
 {
+    formats.remove(place);
 }

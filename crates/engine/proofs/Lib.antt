@@ -7,7 +7,6 @@ pub mod Comparing
 pub mod Counting
 pub mod Cursors
 pub mod Cutting
-pub mod Examples
 pub mod Finding
 pub mod Fits
 pub mod Gaps

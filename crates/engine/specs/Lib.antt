@@ -1,7 +1,6 @@
 pub mod Codes
 pub mod Compiled
 pub mod Compiling
-pub mod Examples
 pub mod Extents
 pub mod Finding
 pub mod Lent

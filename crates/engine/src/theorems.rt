@@ -1,19 +1,10 @@
 //! Theorems about the definitions, each the contract of a function, so that the check asks for its
 //! proof.
 ghost use Rattle.std.specs.Prelude.{◌≡◌, true};
-ghost use Rattle.engine.specs.Examples.{Examples};
 ghost use Rattle.engine.specs.Tables.{StandsOn};
 ghost use Rattle.engine.specs.Tokens.{TokensAreTheText};
 
 use kinds::Kind;
-
-/// Worked examples of hits, misses, refusals and spans at the limit.
-pub fn examples() -> bool
-    ensures theorem { Examples }
-    ensures answer { result ≡ true }
-{
-    true
-}
 
 /// A text that is read has tokens, and as they are written they are the text.
 pub fn tokens_are_the_text<K: Kind>() -> bool

@@ -1,20 +1,18 @@
 //! For people who set up patterns and strips: one line of text in, one line out.
 #![tactic(auto)]
 
+use command::{Asked, Failure, arguments, end};
 use std::alloc::{AllocError, Global};
-use std::env;
-use std::io::{BufRead, BufReader, ErrorKind};
+use std::io::{BufRead, BufReader};
 use std::process::ExitCode;
 
 mod answers;
 mod complaint;
 mod elements;
-mod failure;
 mod pattern;
 
 use answers::answer;
 use complaint::Complaint;
-use failure::Failure;
 
 const USAGE: &str = "\
 usage: probe [--help]
@@ -76,24 +74,12 @@ fn answer_lines(rt: &HostRuntime) -> Result<(), Failure> {
 
 // Does what the arguments ask for.
 fn run(rt: &HostRuntime) -> Result<(), Failure> {
-    let args = env::args(rt).map_err(Failure::Input)?;
-    let args: Vec<String> = args.skip(1).collect(rt.alloc())?;
-    match args.as_slice() {
-        [] => answer_lines(rt),
-        [help] if help.as_str() == "--help" => rt.println(USAGE).map_err(Failure::Output),
-        _ => Err(Failure::Arguments),
+    match arguments(rt)? {
+        Asked::Work => answer_lines(rt),
+        Asked::Usage => rt.println(USAGE).map_err(Failure::Output),
     }
 }
 
 fn main(rt: HostRuntime) -> ExitCode {
-    match run(&rt) {
-        Ok(()) => ExitCode::SUCCESS,
-        // Whoever read the answers has read enough.
-        Err(Failure::Output(e)) if e.kind() == ErrorKind::BrokenPipe => ExitCode::SUCCESS,
-        Err(failure) => {
-            // Where that cannot be written either, the exit status still says so.
-            let _ = rt.eprintln(format_args!("probe: {failure}"));
-            ExitCode::FAILURE
-        }
-    }
+    end(&rt, "probe", run(&rt))
 }

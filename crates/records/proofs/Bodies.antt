@@ -10,7 +10,7 @@ use Rattle.records.specs.Entries.{Signature, Format, Entry, signature, format, p
 use Rattle.records.specs.Reading.{Rest, Read, ◌>>=◌, allowed, bytes_at, byte_at, word_at, text_at, id_allowed, ids_from, ids_at, labels_at, format_at, ended, kind_at, signature_of, format_of, entry_of, entry_at}
 
 -- a step that ends well: the first part did, and then the second
-pub after_first : {A B : Type 0} (r : Result A ℕ) (then : A → Result B ℕ) (y : B) → (r >>= then) ≡ Ok y → (x : A) × (r ≡ Ok x) × (then x ≡ Ok y)
+after_first : {A B : Type 0} (r : Result A ℕ) (then : A → Result B ℕ) (y : B) → (r >>= then) ≡ Ok y → (x : A) × (r ≡ Ok x) × (then x ≡ Ok y)
 after_first (Ok x) then y e = (x, refl, e)
 after_first (Err place) then y e = cc
 
@@ -20,7 +20,7 @@ passed true x place y e = (refl, cc)
 passed false x place y e = cc
 
 -- a field that was allowed was read, and passed the test
-pub allowed_passes : {A : Type 0} (p : A → Bool) (r : Rest) (field : Read A) (x : A × Rest) → allowed p r field ≡ Ok x → (field ≡ Ok x) × (p x.0 ≡ true)
+allowed_passes : {A : Type 0} (p : A → Bool) (r : Rest) (field : Read A) (x : A × Rest) → allowed p r field ≡ Ok x → (field ≡ Ok x) × (p x.0 ≡ true)
 allowed_passes p r (Ok y) x e = let h = passed (p y.0) y r.place x e in (ap (λ z. Ok z) (sym h.1), subst (λ z. p z.0 ≡ true) (sym h.1) h.0)
 allowed_passes p r (Err place) x e = cc
 

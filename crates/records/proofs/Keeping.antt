@@ -126,7 +126,7 @@ other_id id ids q none here is =
     let among = (among_decides id ids).1 (subst (λ n. Contains ids n) is here) in cc
 
 -- the bytes of a body are bytes of its record
-body_bytes : (bytes : List ℕ) → AllByRecursion (λ b. b < 256) bytes → AllByRecursion (λ b. b < 256) (drop 4 bytes)
+pub body_bytes : (bytes : List ℕ) → AllByRecursion (λ b. b < 256) bytes → AllByRecursion (λ b. b < 256) (drop 4 bytes)
 body_bytes bytes all = recursion_from_All _ (drop 4 bytes) (All-drop (λ b. b < 256) 4 bytes (All-from_recursion _ bytes all))
 
 -- what holds of all entries holds of those that are left

@@ -1,9 +1,16 @@
 pub mod Bodies
 pub mod Books
+pub mod Bounds
+pub mod Examples
+pub mod Fields
+pub mod Formats
 pub mod Keeping
 pub mod Labels
 pub mod Lengths
 pub mod Loops
 pub mod Members
+pub mod Readers
+pub mod Records
 pub mod Reports
 pub mod Rises
+pub mod Signatures

@@ -1,7 +1,9 @@
 pub mod Book
 pub mod Calls
 pub mod Entries
+pub mod Examples
 pub mod Lawful
+pub mod Laws
 pub mod Printed
 pub mod Reading
 pub mod Refusals

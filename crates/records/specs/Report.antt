@@ -43,18 +43,58 @@ names f s = among_ids s.id f.signatures
 abbrev pub outranks : Format → Format → Bool
 outranks f g = among_ids g.id f.outranked
 
--- where no format hits, those that have an equal label are tentative
-abbrev pub tentative : Book → List ℕ → List Format
-tentative book label = filter (labelled label) (formats_of book)
-
--- a format that a tentative report lists
-abbrev pub tentative_of : Format → Hit
-tentative_of f = record { id = f.id; status = hit.Tentative; mismatch = false }
-
 -- A report, by what is found in a reading's codes under a label.
 pub record Report : Type 0 where
   pub status : Status
   pub hits : List Hit
+
+-- The rules, by the signatures that hit and the formats that stand.
+module _ (hitting : List Signature) where
+  -- a format hits when one of its signatures does
+  abbrev pub hit_by : Format → Bool
+  hit_by f = list_any (names f) hitting
+
+  -- it is specific if one that hits is specific
+  abbrev pub specific_by : Format → Bool
+  specific_by f = list_any (λ (s : Signature). names f s && s.specific) hitting
+
+  -- the formats that hit
+  abbrev pub those_hit_by : List Format → List Format
+  those_hit_by formats = filter hit_by formats
+
+  -- a format is struck when one that hits outranks it
+  abbrev pub struck_by : List Format → Format → Bool
+  struck_by formats g = list_any (λ f. outranks f g) (those_hit_by formats)
+
+  -- a positive report lists the formats that hit and are not struck
+  abbrev pub unstruck_by : List Format → List Format
+  unstruck_by formats = filter (λ f. not (struck_by formats f)) (those_hit_by formats)
+
+  -- a format that is listed so
+  abbrev pub hit_of_by : List ℕ → Format → Hit
+  hit_of_by label f =
+      record { id = f.id; status = if specific_by f then hit.Specific else hit.Generic; mismatch = warned label f }
+
+-- where no format hits, those that have an equal label are tentative
+abbrev pub tentative_among : List Format → List ℕ → List Format
+tentative_among formats label = filter (labelled label) formats
+
+-- a format that is listed so
+abbrev pub tentative_of : Format → Hit
+tentative_of f = record { id = f.id; status = hit.Tentative; mismatch = false }
+
+-- the report: positive if a format hits, tentative if some are, else negative
+abbrev pub report_by : List Signature → List Format → List ℕ → Report
+report_by hitting formats label =
+    if not (length (those_hit_by hitting formats) == 0) then record { status = status.Positive; hits = map (hit_of_by hitting label) (unstruck_by hitting formats) }
+    else if not (length (tentative_among formats label) == 0) then record { status = status.Tentative; hits = map tentative_of (tentative_among formats label) }
+    else record { status = status.Negative; hits = [] }
+
+-- The same of what stands in a book.
+
+-- the standing formats that have an equal label
+abbrev pub tentative : Book → List ℕ → List Format
+tentative book label = tentative_among (formats_of book) label
 
 module _ {E : Type 0} (a : Alphabet E) (book : Book) (codes : List ℕ) where
   -- a sequence hits as it is compiled
@@ -69,34 +109,30 @@ module _ {E : Type 0} (a : Alphabet E) (book : Book) (codes : List ℕ) where
   abbrev pub hitting : List Signature
   hitting = filter signature_hits (signatures_of book)
 
-  -- a format hits when one of its signatures does
+  -- a format hits
   abbrev pub format_hits : Format → Bool
-  format_hits f = list_any (names f) hitting
+  format_hits f = hit_by hitting f
 
-  -- it is specific if one that hits is specific
+  -- it is specific
   abbrev pub specific : Format → Bool
-  specific f = list_any (λ (s : Signature). names f s && s.specific) hitting
+  specific f = specific_by hitting f
 
   -- the standing formats that hit
   abbrev pub formats_hitting : List Format
-  formats_hitting = filter format_hits (formats_of book)
+  formats_hitting = those_hit_by hitting (formats_of book)
 
-  -- a format is struck when one that hits outranks it
+  -- a format is struck
   abbrev pub struck : Format → Bool
-  struck g = list_any (λ f. outranks f g) formats_hitting
+  struck g = struck_by hitting (formats_of book) g
 
-  -- a positive report lists the formats that hit and are not struck
+  -- the standing formats that a positive report lists
   abbrev pub unstruck : List Format
-  unstruck = filter (λ f. not (struck f)) formats_hitting
+  unstruck = unstruck_by hitting (formats_of book)
 
-  -- a format that a positive report lists
+  -- how a positive report lists a format
   abbrev pub hit_of : List ℕ → Format → Hit
-  hit_of label f =
-      record { id = f.id; status = if specific f then hit.Specific else hit.Generic; mismatch = warned label f }
+  hit_of label f = hit_of_by hitting label f
 
-  -- the report: positive if a format hits, tentative if some are, else negative
+  -- the report
   abbrev pub report : List ℕ → Report
-  report label =
-      if not (length formats_hitting == 0) then record { status = status.Positive; hits = map (hit_of label) unstruck }
-      else if not (length (tentative book label) == 0) then record { status = status.Tentative; hits = map tentative_of (tentative book label) }
-      else record { status = status.Negative; hits = [] }
+  report label = report_by hitting (formats_of book) label

@@ -4,12 +4,12 @@
 mod format;
 mod record;
 mod report;
-pub mod report_laws;
 mod rest;
 mod rules;
 mod signature;
 #[cfg(test)]
 mod tests;
+pub mod theorems;
 
 pub use format::{
     Format, Label, MOST_IDS, MOST_LABEL_CHARACTERS, MOST_LABELS, MOST_NAME_CHARACTERS,

@@ -3,9 +3,10 @@ use Rattle.records.specs.Calls.{unless, entry_read, entered, entering}
 use Rattle.records.specs.Entries.{signature, format}
 use Rattle.records.specs.Refusals.{format_refused}
 use Rattle.records.specs.Taken.{entry_in, signature_in, format_in}
+use Rattle.records.proofs.Bounds.{bytes_below}
 use Rattle.catalogue.specs.Entering.{with_entry}
 use Rattle.catalogue.specs.Standing.{signature_pair, format_pair, book_of, book_in}
-use Rattle.catalogue.proofs.Composing.{signature_entered, format_entered, entering_read, entered_holds, bytes_below}
+use Rattle.catalogue.proofs.Composing.{signature_entered, format_entered, entering_read, entered_holds}
 use Rattle.catalogue.proofs.catalogue.Catalogue.enter.Given as given
 use Rattle.catalogue.proofs.catalogue.Catalogue.enter.Goals as goal
 

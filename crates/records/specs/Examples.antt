@@ -1,17 +1,49 @@
--- Worked examples: what texts of bytes hit and miss, where texts are refused, and spans at the limit.
-use Rattle.std.specs.Prelude.{◌≡◌, ℕ, Bool, true, false, List, [], ◌∷◌, Some, Ok, Err, codes, Result}
+-- Worked examples: what texts of bytes hit and miss, where texts are refused, spans at the limit, and formats that outrank others.
+use Rattle.std.specs.Prelude.{◌≡◌, ℕ, Bool, true, false, List, [], ◌∷◌, map, Some, Ok, Err, codes, Result}
+use Rattle.std.specs.FinMap as map
+use Rattle.faults.specs.declared.fault.Cause.{Cause}
+use Rattle.faults.specs.declared.fault.Cause.TheVariants.{Grammar, Limit, NoLiteral}
 use Rattle.kinds.specs.Bytes.{byte_alphabet}
 use Rattle.patterns.specs.Fragments.{bodies}
 use Rattle.patterns.specs.Patterns.{hits, literal, gap}
+use Rattle.patterns.specs.Sequences.{outcome}
 use Rattle.patterns.specs.declared.reference.Reference.{Reference}
 use Rattle.patterns.specs.declared.reference.Reference.TheVariants.{Front, Back, Anywhere}
-use Rattle.patterns.specs.Sequences.{outcome}
-use Rattle.faults.specs.declared.fault.Cause.{Cause}
-use Rattle.faults.specs.declared.fault.Cause.TheVariants.{Grammar, Limit, NoLiteral}
+use Rattle.records.specs.Book.{Book}
+use Rattle.records.specs.Entries.{Entry, signature, format, body_of}
+use Rattle.records.specs.Report.{report}
+use Rattle.records.specs.declared.report.Hit.{Hit}
 
 -- whether a text of bytes, within its offsets, hits a reading; or the cause and the place of its refusal
 abbrev pub answer : Reference → List ℕ → List ℕ → Result Bool (Cause × ℕ)
 answer r text xs = elim (outcome byte_alphabet text) [ Ok qs ↦ Ok (hits r (bodies qs) xs) | Err c ↦ Err c ]
+
+-- a signature of one text, anywhere
+abbrev pub signature_of_text : ℕ → List ℕ → Entry
+signature_of_text id text =
+    signature (record { id = id; specific = true; sequences = record { reference = Anywhere; text = text } ∷ [] })
+
+-- a format that names the signature of its id, and outranks some formats
+abbrev pub format_over : ℕ → List ℕ → Entry
+format_over id outranked =
+    format (record { id = id; name = []; signatures = id ∷ []; outranked = outranked; labels = [] })
+
+-- the bodies of three signatures, of 41, 43 and 45
+abbrev pub three_signatures : List (ℕ × List ℕ)
+three_signatures =
+    (1, body_of (signature_of_text 1 (codes "41"))) ∷ (3, body_of (signature_of_text 3 (codes "43"))) ∷ (5, body_of (signature_of_text 5 (codes "45"))) ∷ []
+
+-- the bodies of three formats, of which 5 outranks 3, and 3 outranks 1
+abbrev pub three_formats : List (ℕ × List ℕ)
+three_formats =
+    (1, body_of (format_over 1 [])) ∷ (3, body_of (format_over 3 (1 ∷ []))) ∷ (5, body_of (format_over 5 (3 ∷ []))) ∷ []
+
+abbrev pub three_ranks : Book
+three_ranks = record { signatures = map.from_sorted three_signatures; formats = map.from_sorted three_formats }
+
+-- the ids of the report on a reading
+abbrev pub reported : List ℕ → List ℕ
+reported xs = map (λ (h : Hit). h.id) (report byte_alphabet three_ranks xs []).hits
 
 -- The theorem: the examples, all together.
 pub record Examples : Type 0 where
@@ -41,3 +73,6 @@ pub record Examples : Type 0 where
   pub span_at_the_limit : outcome byte_alphabet (codes "41{1022}42")
       ≡ Ok (record { place = 0; item = literal 0x41 } ∷ record { place = 2; item = gap 1022 (Some 1022) } ∷ record { place = 8; item = literal 0x42 } ∷ [])
   pub span_beyond_the_limit : outcome byte_alphabet (codes "41{1023}42") ≡ Err (Limit, 0)
+  -- if all three formats hit, the highest is reported; if the middle one does not, the other two are
+  pub all_three_hit : reported (0x41 ∷ 0x43 ∷ 0x45 ∷ []) ≡ 5 ∷ []
+  pub two_hit : reported (0x41 ∷ 0x45 ∷ []) ≡ 1 ∷ 5 ∷ []

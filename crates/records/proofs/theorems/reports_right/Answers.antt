@@ -1,6 +1,6 @@
 use Rattle.records.proofs.Reports.{laws}
 use Rattle.records.proofs.Rises.{report_rises}
-use Rattle.records.proofs.report_laws.reports_right.Goals as goal
+use Rattle.records.proofs.theorems.reports_right.Goals as goal
 
 pub returns-clause-theorem : goal.returns-clause-theorem
 returns-clause-theorem g c = record {

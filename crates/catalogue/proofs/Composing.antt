@@ -1,8 +1,14 @@
 -- The calls of a catalogue: what its fields hold, and what its book is, before and after them.
-use Rattle.std.proofs.Common.{◌≡◌, ℕ, zero, suc, ◌<◌, Bool, true, false, Fits, w8, List, [], ◌∷◌, length, get_or, drop, replicate, Some, None, Ok, Err, Option, Result, sym, refl, ap, ◌∙◌, subst, arith}
+use Rattle.std.proofs.Common.{◌≡◌, ◌==◌, ℕ, zero, suc, ◌<◌, Bool, true, false, not, List, [], ◌∷◌, map, length, get_or, drop, replicate, Some, None, Ok, Err, Option, Result, is_some, sym, refl, ap, ◌∙◌, subst, arith}
+use Rattle.std.proofs.lemmas.Bool.{eqb-true}
+use Rattle.std.proofs.lemmas.List.Quantifiers.{position-Some}
+use Rattle.std.proofs.lemmas.Option.{slice_get-map, slice_get-get_or}
 use Rattle.std.specs.FinMap as finite
-use Rattle.std.specs.List.{AllByRecursion}
+use Rattle.std.specs.List.{position, find, remove, slice_get}
+use Rattle.std.specs.Option.{option_map, option_or}
 use Rattle.std.specs.Ordering.{nat_cmp}
+use Rattle.faults.specs.Faults.{outside}
+use Rattle.faults.specs.declared.fault.Cause.TheVariants.{Missing}
 use Rattle.faults.specs.declared.fault.Fault.{Fault}
 use Rattle.kinds.specs.Alphabet.{Alphabet}
 use Rattle.engine.specs.Tables.{free_from}
@@ -11,11 +17,13 @@ use Rattle.records.specs.Book.{Book, empty}
 use Rattle.records.specs.Calls.{unless, after, entry_read, id_of, with_body, entering, entered}
 use Rattle.records.specs.Entries.{Signature, Format, Entry, signature, format}
 use Rattle.records.specs.Lawful.{Lawful}
-use Rattle.records.specs.Refusals.{entry_refused, format_refused}
-use Rattle.records.proofs.Books.{none_from, place_counted, insert_made, len_made}
+use Rattle.records.specs.Refusals.{first_of, refused_if, entry_refused, format_refused, smallest_id}
+use Rattle.records.proofs.Books.{none_from, place_counted, insert_made, contains_made, remove_made, len_made}
 use Rattle.records.proofs.Keeping.{neither, not_refused, books_stay_lawful}
 use Rattle.catalogue.specs.Entering.{inserted, with_entry, signature_refused}
-use Rattle.catalogue.specs.Standing.{bodies, book_of, book_in, Rise, SignaturesHold, FormatsHold, Holds}
+use Rattle.catalogue.specs.Standing.{format_pair, formats_in, bodies, book_of, book_in, Rise, SignaturesHold, FormatsHold, Holds}
+use Rattle.catalogue.proofs.Held.{formats_of-book_of}
+use Rattle.catalogue.proofs.Sorted.{contains_bodies, found_position}
 use Rattle.catalogue.specs.declared.formats.StandingFormat.{StandingFormat}
 use Rattle.catalogue.specs.declared.signatures.StandingSignature.{StandingSignature}
 
@@ -108,14 +116,59 @@ module _ {E : Type 0} (a : Alphabet E) (signatures formats : List (ℕ × List �
       ∙ format_added refused f.id (drop 4 bytes) rise (new_format f)
       ∙ sym (entered_read bytes (format f) read)
 
-module _ {E K : Type 0} (a : Alphabet E) (signatures : List (StandingSignature K)) (formats : List StandingFormat) (table : List (Option Fragment)) (holds : Holds a signatures formats table) where
-  -- what a catalogue holds after a record of bytes was entered
-  pub entered_holds : (bytes : List ℕ) (new_signatures : List (StandingSignature K)) (new_formats : List StandingFormat) (new_table : List (Option Fragment))
-      → AllByRecursion (λ b. b < 256) bytes → SignaturesHold a new_signatures new_table → FormatsHold new_formats
-      → book_in new_signatures new_formats ≡ entered a (book_in signatures formats) bytes
-      → Holds a new_signatures new_formats new_table
-  entered_holds bytes new_signatures new_formats new_table below signatures_hold formats_hold is = record {
-    signatures_hold = signatures_hold;
-    formats_hold = formats_hold;
-    lawful = subst (Lawful a) (sym is) ((books_stay_lawful a).entering (book_in signatures formats) bytes below holds.lawful);
-  }
+-- Withdrawing.
+
+-- a choice with nothing behind it
+or_nothing : {A : Type 0} (o : Option A) → option_or o None ≡ o
+or_nothing None = refl
+or_nothing (Some x) = refl
+
+module _ {S : Type 0} (pair : S → ℕ × List ℕ) (xs : List S) (rise : Rise (map pair xs)) (id : ℕ) where
+  -- an id without a place does not stand
+  absent : position (λ s. (pair s).0 == id) xs ≡ None → finite.contains_key (bodies (map pair xs)) id ≡ false
+  absent none = contains_bodies (map pair xs) id rise ∙ sym (found_position pair xs id) ∙ ap is_some none
+
+  -- so its withdrawal is refused
+  pub kept_missing : (named : Option Fault) → position (λ s. (pair s).0 == id) xs ≡ None
+      → first_of (refused_if (not (finite.contains_key (bodies (map pair xs)) id)) (outside Missing id) ∷ named ∷ []) ≡ Some (outside Missing id)
+  kept_missing named none = ap (λ b. first_of (refused_if (not b) (outside Missing id) ∷ named ∷ [])) (absent none)
+
+-- where the place of an id is found, an entry of that id stands
+pub found_entry : {S : Type 0} (pair : S → ℕ × List ℕ) (xs : List S) (id i : ℕ) → position (λ s. (pair s).0 == id) xs ≡ Some i
+    → (body : List ℕ) × (i < length xs) × (slice_get (map pair xs) i ≡ Some (id, body))
+found_entry pair [] id i found = cc
+found_entry pair (s ∷ xs) id i found =
+    let h = position-Some (λ x. (pair x).0 == id) (s ∷ xs) i s found in
+    let x = get_or (s ∷ xs) i s in
+    ((pair x).1, h.0, slice_get-map pair (s ∷ xs) i ∙ ap (option_map pair) (slice_get-get_or (s ∷ xs) i s h.0) ∙ ap (λ n. Some (n, (pair x).1)) (eqb-true (pair x).0 id h.1))
+
+module _ {S : Type 0} (pair : S → ℕ × List ℕ) (xs : List S) (rise : Rise (map pair xs)) (id i : ℕ) (found : position (λ s. (pair s).0 == id) xs ≡ Some i) where
+  -- an id with a place stands, so its withdrawal is refused only where something names it
+  pub kept_named : (named : Option Fault)
+      → first_of (refused_if (not (finite.contains_key (bodies (map pair xs)) id)) (outside Missing id) ∷ named ∷ []) ≡ named
+  kept_named named =
+      let entry = found_entry pair xs id i found in
+      ap (λ b. first_of (refused_if (not b) (outside Missing id) ∷ named ∷ [])) (contains_made (map pair xs) rise id entry.0 i entry.2) ∙ or_nothing named
+
+  -- without it
+  pub gone : bodies (remove (map pair xs) i) ≡ finite.remove (bodies (map pair xs)) id
+  gone = let entry = found_entry pair xs id i found in sym (remove_made (map pair xs) rise id entry.0 i entry.2)
+
+-- the smallest id of a book's formats that pass a test is that of the standing formats
+pub smallest_standing : (p : Format → Bool) (signatures : List (ℕ × List ℕ)) (formats : List StandingFormat) → FormatsHold formats
+    → smallest_id p (book_of signatures (map format_pair formats)) ≡ option_map (λ (f : Format). f.id) (find p (formats_in formats))
+smallest_standing p signatures formats holds = ap (λ fs. option_map (λ (f : Format). f.id) (find p fs)) (formats_of-book_of signatures formats holds)
+
+-- a withdrawal that is refused answers why
+pub refused_answer : (kept : Option Fault) (f : Fault) (id : ℕ) → kept ≡ Some f → ◌≡◌ {A = Result ℕ Fault} (Err f) (unless kept id)
+refused_answer kept f id e = sym (ap (λ o. unless o id) e)
+
+-- and leaves the book as it was
+pub refused_leaves : (kept : Option Fault) (f : Fault) (old new : Book) → kept ≡ Some f → old ≡ after kept old new
+refused_leaves kept f old new e = sym (ap (λ o. after o old new) e)
+
+-- What a catalogue holds after its signatures, formats and table were changed together.
+pub holds_again : {E K : Type 0} (a : Alphabet E) (signatures : List (StandingSignature K)) (formats : List StandingFormat) (table : List (Option Fragment)) (book : Book)
+    → SignaturesHold a signatures table → FormatsHold formats → book_in signatures formats ≡ book → Lawful a book → Holds a signatures formats table
+holds_again a signatures formats table book signatures_hold formats_hold is lawful =
+    record { signatures_hold = signatures_hold; formats_hold = formats_hold; lawful = subst (Lawful a) (sym is) lawful }

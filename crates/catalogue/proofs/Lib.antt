@@ -2,3 +2,4 @@ pub mod Changes
 pub mod Composing
 pub mod Held
 pub mod Moving
+pub mod Sorted

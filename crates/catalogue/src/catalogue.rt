@@ -91,8 +91,9 @@ impl<K: Kind> Catalogue<K> {
         ensures answer { result ≡ withdrawing_signature self.old id }
         ensures stands { self.new ≡ withdrawn_signature self.old id }
     {
-        let place = standing::find(&self.signatures, id)
-            .ok_or(Fault::outside(Cause::Missing, usize::from(id)))?;
+        let Some(place) = standing::find(&self.signatures, id) else {
+            return Err(Fault::outside(Cause::Missing, usize::from(id)));
+        };
         if let Some(format) = formats::first_naming(&self.formats, id) {
             return Err(Fault::outside(Cause::Named, usize::from(format)));
         }
@@ -105,8 +106,9 @@ impl<K: Kind> Catalogue<K> {
         ensures answer { result ≡ withdrawing_format self.old id }
         ensures stands { self.new ≡ withdrawn_format self.old id }
     {
-        let place = standing::find(&self.formats, id)
-            .ok_or(Fault::outside(Cause::Missing, usize::from(id)))?;
+        let Some(place) = standing::find(&self.formats, id) else {
+            return Err(Fault::outside(Cause::Missing, usize::from(id)));
+        };
         if let Some(format) = formats::first_outranking(&self.formats, id) {
             return Err(Fault::outside(Cause::Named, usize::from(format)));
         }

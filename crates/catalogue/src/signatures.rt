@@ -145,5 +145,4 @@ pub(crate) fn withdraw<K: Kind>(
         remove (map signature_pair signatures.old.items) place }
     ensures holds { SignaturesHold K.alphabet signatures.new.items table.new }
     ensures room { 24 ≤ vec_capacity signatures.new }
-{
-}
+{}

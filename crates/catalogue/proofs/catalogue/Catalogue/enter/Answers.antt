@@ -1,14 +1,23 @@
-use Rattle.std.proofs.Common.{◌≡◌, Ok, map, sym, ap, ◌∙◌, subst}
+use Rattle.std.proofs.Common.{◌≡◌, ℕ, Fits, w8, List, get_or, Ok, map, sym, ap, ◌∙◌, subst}
 use Rattle.records.specs.Calls.{unless, entry_read, entered, entering}
 use Rattle.records.specs.Entries.{signature, format}
 use Rattle.records.specs.Refusals.{format_refused}
 use Rattle.records.specs.Taken.{entry_in, signature_in, format_in}
+use Rattle.records.specs.Lawful.{Lawful}
 use Rattle.records.proofs.Bounds.{bytes_below}
+use Rattle.records.proofs.Keeping.{books_stay_lawful}
 use Rattle.catalogue.specs.Entering.{with_entry}
 use Rattle.catalogue.specs.Standing.{signature_pair, format_pair, book_of, book_in}
-use Rattle.catalogue.proofs.Composing.{signature_entered, format_entered, entering_read, entered_holds}
+use Rattle.catalogue.specs.declared.formats.StandingFormat.{StandingFormat}
+use Rattle.catalogue.specs.declared.signatures.StandingSignature.{StandingSignature}
+use Rattle.catalogue.proofs.Composing.{signature_entered, format_entered, entering_read, holds_again}
 use Rattle.catalogue.proofs.catalogue.Catalogue.enter.Given as given
 use Rattle.catalogue.proofs.catalogue.Catalogue.enter.Goals as goal
+
+-- the book is lawful then
+lawful_then : (g : given.Over) (signatures : List (StandingSignature g.row.K.Denot)) (formats : List StandingFormat) (bytes : List ℕ) → Lawful g.K.Kind.alphabet (book_in signatures formats)
+    → ((i : ℕ) → Fits w8 (get_or bytes i 0)) → Lawful g.K.Kind.alphabet (entered g.K.Kind.alphabet (book_in signatures formats) bytes)
+lawful_then g signatures formats bytes lawful fits = (books_stay_lawful g.K.Kind.alphabet).entering (book_in signatures formats) bytes (bytes_below bytes fits) lawful
 
 -- the book with a signature more
 with_signature : (g : given.Over) (c : goal.After-enter g) → book_in c.enter.new.signatures.items c.self.inside.formats.items ≡ entered g.K.Kind.alphabet (book_in c.self.inside.signatures.items c.self.inside.formats.items) c.args.bytes.now
@@ -20,8 +29,8 @@ with_signature g c =
 
 pub invariant_of-self : goal.invariant_of-self
 invariant_of-self g c = (
-  entered_holds g.K.Kind.alphabet c.self.inside.signatures.items c.self.inside.formats.items c.self.inside.table c.self.invariant.0 c.args.bytes.now c.enter.new.signatures.items c.self.inside.formats.items c.enter.new.table
-      (bytes_below c.args.bytes.now c.type_inv.bytes) c.enter.ensures.holds c.self.invariant.0.formats_hold (with_signature g c),
+  holds_again g.K.Kind.alphabet c.enter.new.signatures.items c.self.inside.formats.items c.enter.new.table _
+      c.enter.ensures.holds c.self.invariant.0.formats_hold (with_signature g c) (lawful_then g c.self.inside.signatures.items c.self.inside.formats.items c.args.bytes.now c.self.invariant.0.lawful c.type_inv.bytes),
   c.enter.ensures.room,
   c.self.invariant.2,
 )
@@ -48,8 +57,8 @@ with_format g c =
 
 pub invariant_of-self-in-Format : goal.invariant_of-self-in-Format
 invariant_of-self-in-Format g c = (
-  entered_holds g.K.Kind.alphabet c.self.inside.signatures.items c.self.inside.formats.items c.self.inside.table c.self.invariant.0 c.args.bytes.now c.self.inside.signatures.items c.enter-in-Format.new.formats.items c.self.inside.table
-      (bytes_below c.args.bytes.now c.type_inv.bytes) c.self.invariant.0.signatures_hold c.enter-in-Format.ensures.holds (with_format g c),
+  holds_again g.K.Kind.alphabet c.self.inside.signatures.items c.enter-in-Format.new.formats.items c.self.inside.table _
+      c.self.invariant.0.signatures_hold c.enter-in-Format.ensures.holds (with_format g c) (lawful_then g c.self.inside.signatures.items c.self.inside.formats.items c.args.bytes.now c.self.invariant.0.lawful c.type_inv.bytes),
   c.self.invariant.1,
   c.enter-in-Format.ensures.room,
 )

@@ -3,6 +3,7 @@
 
 mod catalogue;
 mod formats;
+mod report;
 mod signatures;
 mod standing;
 

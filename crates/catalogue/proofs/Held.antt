@@ -65,7 +65,7 @@ module _ {E K : Type 0} (a : Alphabet E) where
       ∙ fragments_held table es holds.held
 
   -- a signature is held in another table where its sequences stand there
-  held_in : (before after : List (Option Fragment)) (e : StandingSignature K) → SignatureHeld a before e
+  pub held_in : (before after : List (Option Fragment)) (e : StandingSignature K) → SignatureHeld a before e
       → AllByRecursion (StandsInIf after) e.sequences.items → SignatureHeld a after e
   held_in before after e h stands = record {
     entry = h.entry;
@@ -83,7 +83,7 @@ module _ {E K : Type 0} (a : Alphabet E) where
   all_held_in before after on (e ∷ es) h = (held_in before after e h.0 (stand_on before after on e.sequences.items h.0.stands), all_held_in before after on es h.1)
 
   -- the slots in use hold fragments
-  used_filled : (table : List (Option Fragment)) (es : List (StandingSignature K)) → AllByRecursion (SignatureHeld a table) es
+  pub used_filled : (table : List (Option Fragment)) (es : List (StandingSignature K)) → AllByRecursion (SignatureHeld a table) es
       → AllByRecursion (IsFilled table) (used es)
   used_filled table [] held = tt
   used_filled table (e ∷ es) held = all_append (IsFilled table) (slots_of e) (used es) (all_filled table e.sequences.items held.0.stands) (used_filled table es held.1)

@@ -3,3 +3,4 @@ pub mod Sorted
 pub mod Slots
 pub mod Held
 pub mod Refusing
+pub mod Withdrawn

@@ -20,7 +20,7 @@ use Rattle.records.specs.Lawful.{Lawful}
 use Rattle.records.specs.Refusals.{first_of, refused_if, entry_refused, format_refused, smallest_id}
 use Rattle.records.proofs.Books.{none_from, place_counted, insert_made, contains_made, remove_made, len_made}
 use Rattle.records.proofs.Keeping.{neither, not_refused, books_stay_lawful}
-use Rattle.catalogue.specs.Entering.{inserted, with_entry, signature_refused}
+use Rattle.catalogue.specs.Entering.{inserted, with_entry}
 use Rattle.catalogue.specs.Standing.{format_pair, formats_in, bodies, book_of, book_in, Rise, SignaturesHold, FormatsHold, Holds}
 use Rattle.catalogue.proofs.Held.{formats_of-book_of}
 use Rattle.catalogue.proofs.Sorted.{contains_bodies, found_position}
@@ -89,7 +89,7 @@ module _ {E : Type 0} (a : Alphabet E) (signatures formats : List (ℕ × List �
         ap (λ (r : Result Entry Fault). elim r [ Err f ↦ book | Ok x ↦ after (entry_refused a book x) book (with_body book x (drop 4 bytes)) ]) read
 
   -- a signature that is not refused has a new id
-  new_signature : (s : Signature) → signature_refused a signatures s ≡ None → finite.contains_key (bodies signatures) s.id ≡ false
+  new_signature : (s : Signature) → entry_refused a (book_of signatures formats) (signature s) ≡ None → finite.contains_key (bodies signatures) s.id ≡ false
   new_signature s none = let taken = neither _ _ none in not_refused _ _ taken.0
 
   -- so has a format
@@ -98,10 +98,10 @@ module _ {E : Type 0} (a : Alphabet E) (signatures formats : List (ℕ × List �
 
   -- the book after a signature was entered
   pub signature_entered : (bytes body : List ℕ) (s : Signature) (new : List (ℕ × List ℕ)) → entry_read a bytes ≡ Ok (signature s) → body ≡ drop 4 bytes
-      → Rise signatures → new ≡ with_entry (signature_refused a signatures s) signatures s.id body
+      → Rise signatures → new ≡ with_entry (entry_refused a (book_of signatures formats) (signature s)) signatures s.id body
       → book_of new formats ≡ entered a (book_of signatures formats) bytes
   signature_entered bytes body s new read behind rise is =
-      let refused = signature_refused a signatures s in
+      let refused = entry_refused a (book_of signatures formats) (signature s) in
       ap (λ pairs. book_of pairs formats) (is ∙ ap (with_entry refused signatures s.id) behind)
       ∙ signature_added refused s.id (drop 4 bytes) rise (new_signature s)
       ∙ sym (entered_read bytes (signature s) read)

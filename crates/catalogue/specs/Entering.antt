@@ -1,7 +1,9 @@
--- What the steps of entering and withdrawing a signature do.
+-- What the steps of entering a signature do.
 use Rattle.std.specs.Prelude.{◌≡◌, ℕ, List, [], ◌∷◌, map, length, insert, count_by, nat_lt, Some, None, Option}
 use Rattle.std.specs.FinMap as map
+use Rattle.std.specs.FinMap.{FinMap}
 use Rattle.std.specs.List.{sum_by}
+use Rattle.std.specs.Ordering.{nat_cmp}
 use Rattle.faults.specs.declared.fault.Fault.{Fault}
 use Rattle.kinds.specs.Alphabet.{Alphabet}
 use Rattle.patterns.specs.Sequences.{Said, parts_said}
@@ -11,6 +13,8 @@ use Rattle.records.specs.Book.{Book, said_by}
 use Rattle.records.specs.Calls.{after}
 use Rattle.records.specs.Entries.{Sequence, Signature, signature}
 use Rattle.records.specs.Refusals.{entry_refused, refused_from}
+use Rattle.catalogue.specs.Standing.{bodies, signature_pair}
+use Rattle.catalogue.specs.declared.signatures.StandingSignature.{StandingSignature}
 
 -- no text of some sequences is refused, and this is what they are compiled to
 pub record Compiles {E : Type 0} (a : Alphabet E) (qs : List Sequence) (said : List (Option Said)) : Type 0 where
@@ -46,13 +50,17 @@ abbrev pub inserted : List (ℕ × List ℕ) → ℕ → List ℕ → List (ℕ 
 inserted pairs id body = insert pairs (count_by (λ (e : ℕ × List ℕ). nat_lt e.0 id) pairs) (id, body)
 
 -- a book of signatures alone
-abbrev pub signatures_alone : List (ℕ × List ℕ) → Book
-signatures_alone pairs = record { signatures = map.from_sorted pairs; formats = map.empty }
+abbrev pub signatures_alone : FinMap nat_cmp (List ℕ) → Book
+signatures_alone bodies = record { signatures = bodies; formats = map.empty }
 
--- why a signature is refused where these stand
-abbrev pub signature_refused : {E : Type 0} → Alphabet E → List (ℕ × List ℕ) → Signature → Option Fault
-signature_refused a pairs s = entry_refused a (signatures_alone pairs) (signature s)
+-- the book of some signatures
+abbrev pub signatures_in : {K : Type 0} → List (StandingSignature K) → Book
+signatures_in signatures = signatures_alone (bodies (map signature_pair signatures))
 
--- the pairs of ids and bodies after that, or as they were
+-- why a signature is refused where others stand
+abbrev pub signature_refused : {E K : Type 0} → Alphabet E → List (StandingSignature K) → Signature → Option Fault
+signature_refused a signatures s = entry_refused a (signatures_in signatures) (signature s)
+
+-- the pairs of ids and bodies with one more, or as they were where there is a refusal
 abbrev pub with_entry : Option Fault → List (ℕ × List ℕ) → ℕ → List ℕ → List (ℕ × List ℕ)
 with_entry refused pairs id body = after refused pairs (inserted pairs id body)

@@ -1,12 +1,12 @@
 -- What the fields of a catalogue owe its book.
-use Rattle.std.specs.Prelude.{◌≡◌, ℕ, ◌+◌, List, [], ◌∷◌, map, length, Some, None, Option, Contains, ⊤}
+use Rattle.std.specs.Prelude.{◌≡◌, ℕ, ◌+◌, List, [], map, length, Some, None, Option, ⊤}
 use Rattle.std.proofs.Common.{T}
 use Rattle.std.specs.FinMap as map
 use Rattle.std.specs.FinMap.{is_sorted, FinMap}
 use Rattle.std.specs.List.{flat_map, AllByRecursion}
 use Rattle.std.specs.Ordering.{nat_cmp}
 use Rattle.kinds.specs.Alphabet.{Alphabet}
-use Rattle.engine.specs.Tables.{Slotted, StandsIn, free_slots}
+use Rattle.engine.specs.Tables.{Slotted, StandsIn, Distinct, free_slots}
 use Rattle.engine.specs.declared.fragment.Fragment.{Fragment}
 use Rattle.patterns.specs.Sequences.{Said}
 use Rattle.records.specs.Book as book
@@ -62,11 +62,6 @@ said_in (Some v) = Some v.said
 -- the slots in use
 abbrev pub used : {K : Type 0} → List (StandingSignature K) → List ℕ
 used signatures = flat_map slots_of signatures
-
--- no number is twice in a list
-abbrev pub Distinct : List ℕ → Type 0
-Distinct [] = ⊤
-Distinct (n ∷ ns) = ¬ (Contains ns n) × Distinct ns
 
 -- The slots in use are distinct, and all others are free.
 pub record Accounted (table : List (Option Fragment)) (slots : List ℕ) : Type 0 where

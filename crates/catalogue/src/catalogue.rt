@@ -6,8 +6,8 @@ ghost use Rattle.records.specs.Calls.{withdrawing_format, withdrawing_signature}
 ghost use Rattle.records.specs.Calls.{withdrawn_format, withdrawn_signature, writing, wrote};
 ghost use Rattle.records.specs.Lawful.{Lawful};
 
-use crate::formats::{self, StandingFormat};
-use crate::signatures::{self, StandingSignature};
+use crate::formats::{self, MOST_FORMATS, StandingFormat};
+use crate::signatures::{self, MOST_SIGNATURES, StandingSignature};
 use crate::standing::{self, Standing};
 use engine::Table;
 use faults::{Cause, Fault};
@@ -15,12 +15,6 @@ use kinds::{Kind, Reading};
 use records::{Entry, Hit, Status, read};
 use std::alloc::{AllocError, Global};
 use std::marker::{Model, PhantomData};
-
-/// A catalogue holds at most this many signatures.
-pub const MOST_SIGNATURES: usize = 24;
-
-/// A catalogue holds at most this many formats.
-pub const MOST_FORMATS: usize = 48;
 
 /// A reading has at most this many elements.
 pub const LONGEST_READING: u32 = 16_777_216;

@@ -7,4 +7,6 @@ mod report;
 mod signatures;
 mod standing;
 
-pub use catalogue::Catalogue;
+pub use catalogue::{Catalogue, LONGEST_READING};
+pub use formats::MOST_FORMATS;
+pub use signatures::MOST_SIGNATURES;

@@ -1,19 +1,16 @@
 //! Signatures that stand.
-ghost use Rattle.std.specs.Prelude.{◌≡◌, ◌<◌, ◌≤◌, Some, IfOk, IfErr, length, map, remove};
-ghost use Rattle.std.specs.List.{list_all, AllByRecursion};
-ghost use Rattle.std.specs.Vec.{vec_capacity, vec_len};
-ghost use Rattle.patterns.specs.Codes.{codes_of};
-ghost use Rattle.patterns.specs.Sequences.{hits_in};
-ghost use Rattle.engine.specs.Tables.{free_slots, StandsIn};
+ghost use Rattle.std.specs.Prelude.{◌≡◌, ◌<◌, ◌≤◌, Some, None, IfOk, IfErr, OnOk, length, map, remove, vec_len};
+ghost use Rattle.std.specs.List.{flat_map};
+ghost use Rattle.std.specs.Vec.{vec_capacity};
+ghost use Rattle.engine.specs.Tables.{cleared, free_slots};
 ghost use Rattle.records.specs.Book as book;
 ghost use Rattle.records.specs.Calls.{after, unless};
-ghost use Rattle.records.specs.Entries.{signature as signature_entry};
-ghost use Rattle.records.specs.Refusals.{entry_refused, refused_from};
+ghost use Rattle.records.specs.Refusals.{refused_from};
 ghost use Rattle.records.specs.Taken.{signature_in};
-ghost use Rattle.catalogue.specs.Entering.{fragment_count, fragment_total, signature_refused, with_entry, Compiles, MovedAll, MovedIf};
-ghost use Rattle.catalogue.specs.Standing.{signature_pair, SignaturesHold};
+ghost use Rattle.catalogue.specs.Entering.{fragment_count, fragment_total, inserted, signature_refused, Compiles, MovedAll, MovedIf};
+ghost use Rattle.catalogue.specs.Standing.{signature_pair, slots_in, SignatureHeld, SignaturesHold};
 
-use crate::standing::{Standing, place_of};
+use crate::standing::{Standing, find, place_of};
 use arrayvec::ArrayVec;
 use engine::{InTable, Sequence, Table};
 use faults::{Cause, Fault};
@@ -108,6 +105,61 @@ fn move_into<K: Kind>(
     moved
 }
 
+// The compiled sequences of a signature that may be entered where others stand, or its refusal.
+fn accept<K: Kind>(
+    signatures: &[StandingSignature<K>],
+    table: &Table,
+    signature: &Signature<'_>,
+) -> Result<ArrayVec<Option<Sequence<K>>, MOST_SEQUENCES>, Fault>
+    requires { SignaturesHold K.alphabet signatures.now table.now }
+    ensures accepted { OnOk result
+        (signature_refused K.alphabet signatures.now (signature_in signature.now) ≡ None) }
+    ensures compiled { IfOk result (λ v.
+        Compiles K.alphabet (signature_in signature.now).sequences v.items) }
+    ensures room { IfOk result (λ v. fragment_total v.items ≤ length (free_slots table.now)) }
+    ensures refused { IfErr result (λ f.
+        signature_refused K.alphabet signatures.now (signature_in signature.now) ≡ Some f) }
+{
+    if find(signatures, signature.id).is_some() {
+        return Err(Fault::outside(Cause::Taken, usize::from(signature.id)));
+    }
+    let compiled = compile(signature)?;
+    if signatures.len() >= MOST_SIGNATURES {
+        return Err(Fault::outside(Cause::Full, 1));
+    }
+    if table.free_count() < count_fragments(compiled.as_slice()) {
+        return Err(Fault::outside(Cause::Full, 2));
+    }
+    Ok(compiled)
+}
+
+// A signature with its body, and with its sequences moved into a table that has room for them.
+fn stand<K: Kind>(
+    signature: &Signature<'_>,
+    body: &[u8],
+    sequences: ArrayVec<Option<Sequence<K>>, MOST_SEQUENCES>,
+    table: &mut Table,
+) -> StandingSignature<K>
+    requires reads { book.signature_in body.now ≡ Some (signature_in signature.now) }
+    requires short { length body.now ≤ 828 }
+    requires compiled { Compiles K.alphabet
+        (signature_in signature.now).sequences sequences.items }
+    requires room { fragment_total sequences.items ≤ length (free_slots table.old) }
+    ensures pair { signature_pair result ≡ (signature.now.id, body.now) }
+    ensures held { SignatureHeld K.alphabet table.new result }
+    ensures moved { MovedAll sequences.items table.old table.new result.sequences.items }
+{
+    let Ok(body) = ArrayVec::try_from(body) else {
+        unreachable!()
+    };
+    StandingSignature {
+        id: signature.id,
+        specific: signature.specific,
+        body,
+        sequences: move_into(sequences, table),
+    }
+}
+
 // Enters a signature whose body this is, or refuses it and changes nothing.
 pub(crate) fn enter<K: Kind>(
     signatures: &mut Vec<StandingSignature<K>>,
@@ -117,32 +169,54 @@ pub(crate) fn enter<K: Kind>(
 ) -> Result<u16, Fault>
     requires reads { book.signature_in body.now ≡ Some (signature_in signature.now) }
     requires short { length body.now ≤ 828 }
-    requires room { 24 ≤ vec_capacity signatures.old }
     requires holds { SignaturesHold K.alphabet signatures.old.items table.old }
+    requires room { 24 ≤ vec_capacity signatures.old }
     ensures answer { result ≡ unless
-        (signature_refused K.alphabet (map signature_pair signatures.old.items)
-        (signature_in signature.now)) signature.now.id }
-    ensures pairs { map signature_pair signatures.new.items ≡ with_entry
-        (signature_refused K.alphabet (map signature_pair signatures.old.items)
-        (signature_in signature.now))
-        (map signature_pair signatures.old.items) signature.now.id body.now }
+        (signature_refused K.alphabet signatures.old.items (signature_in signature.now))
+        signature.now.id }
+    ensures pairs { map signature_pair signatures.new.items ≡ after
+        (signature_refused K.alphabet signatures.old.items (signature_in signature.now))
+        (map signature_pair signatures.old.items)
+        (inserted (map signature_pair signatures.old.items) signature.now.id body.now) }
     ensures holds { SignaturesHold K.alphabet signatures.new.items table.new }
     ensures room { 24 ≤ vec_capacity signatures.new }
 {
-    Err(Fault::outside(Cause::Taken, 0))
+    let sequences = accept(signatures, table, signature)?;
+    let place = place_of(signatures, signature.id);
+    let standing = stand(signature, body, sequences, table);
+    match signatures.insert(place, standing) {
+        Ok(()) => Ok(signature.id),
+        Err(_) => unreachable!(),
+    }
 }
 
-// Withdraws the signature at a place, and frees its fragments.
+// Frees the slots of sequences.
+fn clear_all<K: Kind>(
+    sequences: ArrayVec<Option<InTable<K>>, MOST_SEQUENCES>,
+    table: &mut Table,
+)
+    ensures { table.new ≡ cleared table.old (flat_map slots_in sequences.items) }
+{
+    for sequence in sequences {
+        if let Some(sequence) = sequence {
+            sequence.clear(table);
+        }
+    }
+}
+
+// Withdraws the signature at a place: takes it out, and frees the slots of its fragments.
 pub(crate) fn withdraw<K: Kind>(
     signatures: &mut Vec<StandingSignature<K>>,
     table: &mut Table,
     place: usize,
 )
-    requires stands { place < vec_len signatures.old }
+    requires place { place < vec_len signatures.old }
     requires holds { SignaturesHold K.alphabet signatures.old.items table.old }
-    requires room { 24 ≤ vec_capacity signatures.old }
-    ensures pairs { map signature_pair signatures.new.items ≡
-        remove (map signature_pair signatures.old.items) place }
+    ensures pairs { map signature_pair signatures.new.items
+        ≡ remove (map signature_pair signatures.old.items) place }
     ensures holds { SignaturesHold K.alphabet signatures.new.items table.new }
-    ensures room { 24 ≤ vec_capacity signatures.new }
-{}
+    ensures room { vec_capacity signatures.new ≡ vec_capacity signatures.old }
+{
+    let withdrawn = signatures.remove(place);
+    clear_all(withdrawn.sequences, table);
+}

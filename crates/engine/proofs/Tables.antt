@@ -190,19 +190,24 @@ module _ {X : Type 0} where
       (suc f.0, omega (arith, f.1), f.2)
 
   -- the free slots are distinct
-  free_distinct : (n : ℕ) (t : List (Option X)) → Distinct (free_from n t)
+  pub free_distinct : (n : ℕ) (t : List (Option X)) → Distinct (free_from n t)
   free_distinct n [] = tt
   free_distinct n (None ∷ t) = (λ (k, h, e). let f = free_stands (suc n) t k n h e in absurd (omega (arith, f.1)), free_distinct (suc n) t)
   free_distinct n (Some x ∷ t) = free_distinct (suc n) t
+
+  -- nothing stands in a free slot
+  pub none_at : (t : List (Option X)) (j : ℕ) → Contains (free_slots t) j → at_slot t j ≡ None
+  none_at t j (k, h, e) =
+      let f = free_stands 0 t k j h e in
+      let same : f.0 ≡ j = omega (arith, f.1) in
+      subst (λ i. at_slot t i ≡ None) same f.2
 
   -- nothing stands in one of the first free slots
   pub none_at_free : (n : ℕ) (t : List (Option X)) (j : ℕ) → Contains (take n (free_slots t)) j → at_slot t j ≡ None
   none_at_free n t j (k, h, e) =
       let below : k < n = omega (arith, length-take n (free_slots t)) in
       let inside : k < length (free_slots t) = omega (arith, length-take n (free_slots t)) in
-      let f = free_stands 0 t k j inside (sym (get_or-take n (free_slots t) k j below) ∙ e) in
-      let same : f.0 ≡ j = omega (arith, f.1) in
-      subst (λ i. at_slot t i ≡ None) same f.2
+      none_at t j (k, inside, sym (get_or-take n (free_slots t) k j below) ∙ e)
 
   -- The first free slot: it is one of the table and free, and behind it in the list of free slots are those that are free once it
   -- is filled.
@@ -292,7 +297,7 @@ abbrev HeldIf : Said → Option Fragment → Option spec.Fragment → Type 0
 HeldIf s p q = HoldsIf s.reference (oriented s.reference s.items) p q
 
 -- the front of a list of distinct slots
-front_distinct : (slots rest : List ℕ) → Distinct (slots ++ rest) → Distinct slots
+pub front_distinct : (slots rest : List ℕ) → Distinct (slots ++ rest) → Distinct slots
 front_distinct [] rest d = tt
 front_distinct (s ∷ ss) rest d = (λ h. d.0 (Contains-append_left ss rest s h), front_distinct ss rest d.1)
 

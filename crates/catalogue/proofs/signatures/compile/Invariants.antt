@@ -1,8 +1,7 @@
-use Rattle.std.proofs.Common.{◌≡◌, map, take, drop, Some}
-use Rattle.arrayvec.specs.ArrayVec.{array_vec_len}
+use Rattle.std.proofs.Common.{◌≡◌, map, take, drop}
 use Rattle.records.specs.Book.{said_by}
 use Rattle.records.specs.Refusals.{refused_from}
-use Rattle.records.specs.Taken.{signature_in, sequences_in}
+use Rattle.records.specs.Taken.{sequences_in}
 use Rattle.catalogue.proofs.signatures.compile.Given as goal
 use Rattle.std.proofs.Common.{◌+◌}
 

@@ -1,4 +1,4 @@
-use Rattle.std.proofs.Common.{◌≡◌, ◌==◌, ℕ, List, map, Some, None, Ok, Err, sym, ap, ◌∙◌, subst}
+use Rattle.std.proofs.Common.{◌≡◌, ◌==◌, ◌≤◌, ℕ, List, map, Some, None, Ok, Err, sym, ap, ◌∙◌, subst}
 use Rattle.std.specs.FinMap as finite
 use Rattle.std.specs.FinMap.{FinMap}
 use Rattle.std.specs.List.{position, find}
@@ -78,7 +78,7 @@ pub invariant_of-self : goal.invariant_of-self
 invariant_of-self g c = (
   holds_again g.K.Kind.alphabet c.withdraw.new.signatures.items c.self.inside.formats.items c.withdraw.new.table _ c.withdraw.ensures.holds c.self.invariant.0.formats_hold (without g c)
       ((books_stay_lawful g.K.Kind.alphabet).withdrawing_signature (book_in c.self.inside.signatures.items c.self.inside.formats.items) c.args.id c.self.invariant.0.lawful),
-  c.withdraw.ensures.room,
+  subst (λ n. 24 ≤ n) (sym c.withdraw.ensures.room) c.self.invariant.1,
   c.self.invariant.2,
 )
 

@@ -1,108 +1,92 @@
--- Signatures that stand: how many fragments they have, and what they hold once one is put among them.
-use Rattle.std.proofs.Common.{◌≡◌, ℕ, T, List, [], ◌∷◌, ◌++◌, map, length, take, drop, Option, refl, sym, ap, ◌∙◌, subst, ⊎_elim, arith}
-use Rattle.std.specs.FinMap as finmap
-use Rattle.std.specs.FinMap.{is_sorted}
-use Rattle.std.specs.List.{cons_option, filter_map, insert, sum_by, AllByRecursion}
-use Rattle.std.specs.Ordering.{nat_cmp}
-use Rattle.std.proofs.lemmas.List.{length-append, take-append-drop}
-use Rattle.std.proofs.lemmas.List.Concat.{flat_map-append}
-use Rattle.std.proofs.lemmas.List.Elements.{Contains-append_left, Contains-append_right, Contains-append_cases}
-use Rattle.std.proofs.lemmas.List.Sums.{sum_by-cons}
-use Rattle.kinds.specs.Alphabet.{Alphabet}
-use Rattle.patterns.specs.Sequences.{Said}
-use Rattle.engine.specs.Tables.{Slotted, IsFilled, Distinct, Apart, free_slots}
-use Rattle.engine.specs.declared.fragment.Fragment.{Fragment}
-use Rattle.engine.proofs.Tables.{free_distinct, front_distinct}
+-- What standing entries say of their book.
+use Rattle.std.proofs.Common.{◌≡◌, ℕ, ◌<◌, Bool, true, false, cond, ◌||◌, ◌==◌, List, [], ◌∷◌, map, length, Some, None, Option, is_some, nat_le, sym, refl, ap, ◌∙◌, arith}
+use Rattle.std.proofs.lemmas.Bool.Decides.{nat_tests}
+use Rattle.std.proofs.lemmas.List.{length-map}
+use Rattle.std.specs.FinMap as map
+use Rattle.std.specs.FinMap.{find as find_key}
+use Rattle.std.specs.List.{find, filter_map, cons_option, list_any, AllByRecursion}
+use Rattle.std.specs.Option.{option_map, option_or, MatchOption, IsSomeAnd}
+use Rattle.std.specs.Ordering.{nat_cmp, eq_by_cmp}
+use Rattle.faults.specs.Faults.{outside}
+use Rattle.faults.specs.declared.fault.Cause.TheVariants.{Taken, Full}
+use Rattle.faults.specs.declared.fault.Fault.{Fault}
 use Rattle.records.specs.Book as book
-use Rattle.records.specs.Book.{fragments_of, fragments_standing}
-use Rattle.catalogue.specs.Entering.{MovedAll, signatures_in}
-use Rattle.catalogue.specs.Standing.{signature_pair, slots_of, said_in, used, Accounted, StandsInIf, SignatureHeld, SignaturesHold}
-use Rattle.catalogue.specs.declared.signatures.StandingSignature.{StandingSignature}
-use Rattle.catalogue.proofs.Moving.{all_free, kept_by_all}
-use Rattle.catalogue.proofs.Slots.{all_append, all_front, all_back, all_filled, distinct_append, back_distinct, parts_apart, free_apart, fragments_said, slots_total}
+use Rattle.records.specs.Book.{Book, formats_of}
+use Rattle.records.specs.Entries.{Format}
+use Rattle.records.specs.Refusals.{refused_if, names_missing, formats_full, format_refused}
+use Rattle.records.specs.Taken.{format_in}
+use Rattle.records.proofs.Books.{len_made, values_made}
+use Rattle.records.proofs.Labels.{list_any-map}
+use Rattle.catalogue.specs.Standing.{bodies, book_of, format_pair, formats_in, FormatHeld, FormatsHold, Rise}
+use Rattle.catalogue.specs.declared.formats.StandingFormat.{StandingFormat}
 
--- sequences stand in another table too
-stand_on : (before after : List (Option Fragment)) → ((v : Option Slotted) → StandsInIf before v → StandsInIf after v) → (vs : List (Option Slotted))
-    → AllByRecursion (StandsInIf before) vs → AllByRecursion (StandsInIf after) vs
-stand_on before after on [] h = tt
-stand_on before after on (v ∷ vs) h = (on v h.0, stand_on before after on vs h.1)
+-- two numbers tie where they are the same
+tied : (q x : ℕ) → eq_by_cmp nat_cmp q x ≡ (x == q)
+tied q x = grind (arith, nat_tests)
 
--- the slots are accounted for once one more signature is put among them
-accounted_more : (before after : List (Option Fragment)) (xs new ys : List ℕ) → Accounted before (xs ++ ys) → AllByRecursion (IsFilled before) (xs ++ ys)
-    → new ++ free_slots after ≡ free_slots before → Accounted after (xs ++ (new ++ ys))
-accounted_more before after xs new ys old filled taken = record {
-  distinct =
-      distinct_append xs (new ++ ys) (front_distinct xs ys old.distinct)
-      (distinct_append new ys (front_distinct new (free_slots after) (subst Distinct (sym taken) (free_distinct 0 before))) (back_distinct xs ys old.distinct)
-      (λ slot is_new is_old. beside slot (Contains-append_right xs ys slot is_old) is_new))
-      (λ slot is_old h. ⊎_elim (beside slot (Contains-append_left xs ys slot is_old)) (parts_apart xs ys old.distinct slot is_old) (Contains-append_cases new ys slot h));
-  counted =
-      omega (arith, old.counted, ap length taken, length-append xs ys, length-append xs (new ++ ys), length-append new ys, length-append new (free_slots after));
-}
+-- an id is found in a list where some entry has it
+is_some-find_key : (es : List (ℕ × List ℕ)) (id : ℕ) → is_some (find_key nat_cmp id es) ≡ list_any (λ (e : ℕ × List ℕ). e.0 == id) es
+is_some-find_key [] id = refl
+is_some-find_key (e ∷ es) id =
+    elim (eq_by_cmp nat_cmp id e.0) as (λ (b : Bool). eq_by_cmp nat_cmp id e.0 ≡ b → is_some (cond b (Some e.1) (find_key nat_cmp id es)) ≡ ((e.0 == id) || list_any (λ (f : ℕ × List ℕ). f.0 == id) es)) [
+      | true ↦ λ o. ap (λ b. b || list_any (λ (f : ℕ × List ℕ). f.0 == id) es) (sym o ∙ tied id e.0)
+      | false ↦ λ o. is_some-find_key es id ∙ ap (λ b. b || list_any (λ (f : ℕ × List ℕ). f.0 == id) es) (sym o ∙ tied id e.0)
+    ] refl
+
+-- an id stands where some entry has it
+pub contains_key-bodies : {S : Type 0} (pair : S → ℕ × List ℕ) (xs : List S) (id : ℕ) → Rise (map pair xs)
+    → map.contains_key (bodies (map pair xs)) id ≡ list_any (λ s. (pair s).0 == id) xs
+contains_key-bodies pair xs id rise =
+    ap is_some (map.get-from_sorted nat_cmp (map pair xs) id rise) ∙ is_some-find_key (map pair xs) id ∙ list_any-map (λ (e : ℕ × List ℕ). e.0 == id) pair xs
+
+-- the first image that passes a test is that of the first element whose image does
+find-map : {X Y : Type 0} (p : Y → Bool) (f : X → Y) (xs : List X) → find p (map f xs) ≡ option_map f (find (λ x. p (f x)) xs)
+find-map p f [] = refl
+find-map p f (x ∷ xs) =
+    elim (p (f x)) as (λ (b : Bool). cond b (Some (f x)) (find p (map f xs)) ≡ option_map f (cond b (Some x) (find (λ y. p (f y)) xs))) [
+      | true ↦ refl
+      | false ↦ find-map p f xs
+    ]
+
+-- the id of the first format that passes a test
+pub id_of_first : (p : Format → Bool) (formats : List StandingFormat) → option_map (λ (e : StandingFormat). e.format.id) (find (λ (e : StandingFormat). p (format_in e.format)) formats)
+    ≡ option_map (λ (f : Format). f.id) (find p (formats_in formats))
+id_of_first p formats = twice (find (λ (e : StandingFormat). p (format_in e.format)) formats) ∙ ap (option_map (λ (f : Format). f.id)) (sym (find-map p (λ (e : StandingFormat). format_in e.format) formats))
   where
-    beside : Apart (xs ++ ys) new
-    beside = free_apart before (xs ++ ys) new (free_slots after) filled taken
+    twice : (o : Option StandingFormat) → option_map (λ (e : StandingFormat). e.format.id) o ≡ option_map (λ (f : Format). f.id) (option_map (λ (e : StandingFormat). format_in e.format) o)
+    twice None = refl
+    twice (Some e) = refl
 
-module _ {E K : Type 0} (a : Alphabet E) where
-  -- those that stand have as many fragments as slots
-  fragments_held : (table : List (Option Fragment)) (es : List (StandingSignature K)) → AllByRecursion (SignatureHeld a table) es
-      → sum_by (fragments_of a) (filter_map book.signature_in (map (λ p. p.1) (map signature_pair es))) ≡ length (used es)
-  fragments_held table [] held = refl
-  fragments_held table (e ∷ es) held =
-      let h = held.0 in
-      let rest = fragments_held table es held.1 in
-      let others = filter_map book.signature_in (map (λ p. p.1) (map signature_pair es)) in
-      let one = fragments_said a h.entry.sequences (map said_in e.sequences.items) h.said ∙ slots_total table e.sequences.items h.stands in
-      let all : sum_by (fragments_of a) (h.entry ∷ others) ≡ length (slots_of e ++ used es) =
-      omega (arith, sum_by-cons (fragments_of a) h.entry others, length-append (slots_of e) (used es)) in
-      subst (λ o. sum_by (fragments_of a) (cons_option o others) ≡ length (slots_of e ++ used es)) (sym h.reads) all
+-- what `map` gives of what may have been found, by a view of it
+pub mapped : {A X Y : Type 0} (view : A → X) (f : X → Y) (P : A → Y → Type 0) (o : Option A) (r : Option Y) → MatchOption o (r ≡ None) (λ x. IsSomeAnd r (P x))
+    → ((x : A) (y : Y) → P x y → y ≡ f (view x)) → r ≡ option_map f (option_map view o)
+mapped view f P None r h gives = h
+mapped view f P (Some x) None h gives = absurd h
+mapped view f P (Some x) (Some y) h gives = ap (λ z. Some z) (gives x y h)
 
-  -- as many fragments stand as slots are in use
-  pub fragments_counted : (es : List (StandingSignature K)) (table : List (Option Fragment)) → SignaturesHold a es table
-      → fragments_standing a (signatures_in es) ≡ length (used es)
-  fragments_counted es table holds =
-      ap (λ l. sum_by (fragments_of a) (filter_map book.signature_in (map (λ p. p.1) l))) (finmap.entries-from_sorted nat_cmp (map signature_pair es) holds.rise)
-      ∙ fragments_held table es holds.held
+-- as many ids stand as there are entries
+pub len-bodies : {S : Type 0} (pair : S → ℕ × List ℕ) (xs : List S) → Rise (map pair xs) → map.len (bodies (map pair xs)) ≡ length xs
+len-bodies pair xs rise = len_made (map pair xs) rise ∙ length-map xs pair
 
-  -- a signature is held in another table where its sequences stand there
-  held_in : (before after : List (Option Fragment)) (e : StandingSignature K) → SignatureHeld a before e
-      → AllByRecursion (StandsInIf after) e.sequences.items → SignatureHeld a after e
-  held_in before after e h stands = record {
-    entry = h.entry;
-    reads = h.reads;
-    id = h.id;
-    specific = h.specific;
-    said = h.said;
-    stands = stands;
-  }
+-- the formats of a book are those of the standing formats
+pub formats_of-book_of : (pairs : List (ℕ × List ℕ)) (formats : List StandingFormat) → FormatsHold formats → formats_of (book_of pairs (map format_pair formats)) ≡ formats_in formats
+formats_of-book_of pairs formats holds = ap (filter_map book.format_in) (values_made (map format_pair formats) holds.rise) ∙ read formats holds.held
+  where
+    read : (fs : List StandingFormat) → AllByRecursion FormatHeld fs → filter_map book.format_in (map (λ (e : ℕ × List ℕ). e.1) (map format_pair fs)) ≡ formats_in fs
+    read [] held = refl
+    read (f ∷ fs) held =
+        ap (λ (o : Option Format). cons_option o (filter_map book.format_in (map (λ (e : ℕ × List ℕ). e.1) (map format_pair fs)))) held.0
+        ∙ ap (λ (gs : List Format). format_in f.format ∷ gs) (read fs held.1)
 
-  -- signatures are held there then
-  all_held_in : (before after : List (Option Fragment)) → ((v : Option Slotted) → StandsInIf before v → StandsInIf after v) → (es : List (StandingSignature K))
-      → AllByRecursion (SignatureHeld a before) es → AllByRecursion (SignatureHeld a after) es
-  all_held_in before after on [] h = tt
-  all_held_in before after on (e ∷ es) h = (held_in before after e h.0 (stand_on before after on e.sequences.items h.0.stands), all_held_in before after on es h.1)
-
-  -- the slots in use hold fragments
-  used_filled : (table : List (Option Fragment)) (es : List (StandingSignature K)) → AllByRecursion (SignatureHeld a table) es
-      → AllByRecursion (IsFilled table) (used es)
-  used_filled table [] held = tt
-  used_filled table (e ∷ es) held = all_append (IsFilled table) (slots_of e) (used es) (all_filled table e.sequences.items held.0.stands) (used_filled table es held.1)
-
-  -- what they hold once one is put among them
-  pub inserted_holds : (es : List (StandingSignature K)) (before after : List (Option Fragment)) (n : ℕ) (e : StandingSignature K) (ss : List (Option Said))
-      → SignaturesHold a es before → MovedAll ss before after e.sequences.items → SignatureHeld a after e
-      → T (is_sorted nat_cmp (map signature_pair (insert es n e))) → SignaturesHold a (insert es n e) after
-  inserted_holds es before after n e ss old moved held rise =
-      let front = take n es in
-      let back = drop n es in
-      let parts : front ++ back ≡ es = take-append-drop n es in
-      let all = all_held_in before after (kept_by_all ss before after e.sequences.items moved) es old.held in
-      let split = subst (AllByRecursion (SignatureHeld a after)) (sym parts) all in
-      let slots : used es ≡ used front ++ used back = ap used (sym parts) ∙ flat_map-append slots_of front back in
-      let filled = subst (AllByRecursion (IsFilled before)) slots (used_filled before es old.held) in
-      let accounted = accounted_more before after (used front) (slots_of e) (used back) (subst (Accounted before) slots old.accounted) filled (all_free ss before after e.sequences.items moved) in
-      record {
-        rise = rise;
-        held = all_append (SignatureHeld a after) front (e ∷ back) (all_front (SignatureHeld a after) front back split) (held, all_back (SignatureHeld a after) front back split);
-        accounted = subst (Accounted after) (sym (flat_map-append slots_of front (e ∷ back))) accounted;
-      }
+-- a format that is not refused has a new id, and there is room for it
+pub accepted : (book : Book) (f : Format) → format_refused book f ≡ None → (map.contains_key book.formats f.id ≡ false) × (map.len book.formats < 48)
+accepted book f none =
+    elim (map.contains_key book.formats f.id) as (λ (b : Bool). option_or (refused_if b (outside Taken f.id)) (option_or (names_missing book f) (option_or (formats_full book) None)) ≡ None → (b ≡ false) × (map.len book.formats < 48)) [
+      | true ↦ λ e. cc
+      | false ↦ λ e. (refl, room (names_missing book f) (nat_le 48 (map.len book.formats)) refl e)
+    ] none
+  where
+    room : (missing : Option Fault) (b : Bool) → nat_le 48 (map.len book.formats) ≡ b → option_or missing (option_or (refused_if b (outside Full 3)) None) ≡ None → map.len book.formats < 48
+    room (Some m) b is e = cc
+    room None true is e = cc
+    room None false is e = grind (arith, nat_tests)

@@ -1,5 +1,10 @@
-pub mod Moving
-pub mod Sorted
-pub mod Slots
+pub mod Changes
+pub mod Composing
 pub mod Held
+pub mod HeldSignatures
+pub mod Moving
 pub mod Refusing
+pub mod Reporting
+pub mod Slots
+pub mod Sorted
+pub mod Withdrawn

@@ -20,7 +20,7 @@ use Rattle.records.specs.Refusals.{refused_from, refused_if, first_of, signature
 use Rattle.catalogue.specs.Entering.{fragment_total, signature_refused, signatures_in, Compiles}
 use Rattle.catalogue.specs.Standing.{signature_pair, bodies, SignaturesHold}
 use Rattle.catalogue.specs.declared.signatures.StandingSignature.{StandingSignature}
-use Rattle.catalogue.proofs.Held.{fragments_counted}
+use Rattle.catalogue.proofs.HeldSignatures.{fragments_counted}
 use Rattle.catalogue.proofs.Slots.{fragments_said}
 use Rattle.catalogue.proofs.Sorted.{contains_bodies, found_position, len_bodies}
 

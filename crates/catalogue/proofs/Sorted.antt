@@ -1,9 +1,9 @@
 -- Pairs of ids and bodies whose ids rise: which ids are found, and the pairs with one more or without one.
-use Rattle.std.proofs.Common.{◌≡◌, ℕ, suc, ◌+◌, ◌<◌, ◌≤◌, Bool, true, false, true≢false, cond, not, ◌&&◌, eqb, ltb, T, List, [], ◌∷◌, ◌++◌, map, length, take, drop, Some, None, Ordering, Less, Equal, Greater, zero-add, refl, sym, ap, ◌∙◌, subst, ⊎_elim, arith}
+use Rattle.std.proofs.Common.{◌≡◌, ℕ, zero, suc, ◌+◌, ◌<◌, ◌≤◌, Bool, true, false, true≢false, cond, not, ◌&&◌, eqb, ltb, T, List, [], ◌∷◌, ◌++◌, map, length, take, drop, Some, None, Ordering, Less, Equal, Greater, zero-add, refl, sym, ap, ◌∙◌, subst, ⊎_elim, arith}
 use Rattle.std.specs.FinMap as finmap
 use Rattle.std.specs.FinMap.{find, put, is_sorted}
 use Rattle.std.specs.FinMap.Entries.{by_order, below_all, is_sorted-put}
-use Rattle.std.specs.List.{count_by, insert, position, position_or_len, AllByRecursion}
+use Rattle.std.specs.List.{count_by, insert, remove, position, position_or_len, AllByRecursion}
 use Rattle.std.specs.Option.{is_some}
 use Rattle.std.specs.Ordering.{nat_cmp, is_lt, is_eq, eq_by_cmp, MatchOrdering}
 use Rattle.std.specs.Cmp.{ranks, nat_cmp_total, unsigned_tied}
@@ -65,6 +65,11 @@ AreAbove id pairs = AllByRecursion (λ e. id < e.0) pairs
 both : (a b : Bool) → T (a && b) → T a × T b
 both true b h = (tt, h)
 both false b h = absurd h
+
+-- two tests that both hold
+joined : (a b : Bool) → T a → T b → T (a && b)
+joined true b h k = k
+joined false b h k = absurd h
 
 -- where the ids rise, those that follow one are above it
 above_first : (id : ℕ) (pairs : List (ℕ × List ℕ)) → T (below_all nat_cmp id pairs) → AreAbove id pairs
@@ -144,3 +149,26 @@ pairs_inserted pair xs x id body is =
     map-append pair (take n xs) (x ∷ drop n xs)
     ∙ (λ i. sym (take-map pair n xs) i ++ is i ∷ sym (drop-map pair n xs) i)
     ∙ ap (λ k. insert (map pair xs) k (id, body)) (count_pairs pair xs id)
+
+-- the others are still above one
+below_removed : (id : ℕ) (pairs : List (ℕ × List ℕ)) (n : ℕ) → T (below_all nat_cmp id pairs) → T (below_all nat_cmp id (remove pairs n))
+below_removed id [] zero below = tt
+below_removed id [] (suc n) below = tt
+below_removed id (e ∷ es) zero below = (both (is_lt (nat_cmp id e.0)) (below_all nat_cmp id es) below).1
+below_removed id (e ∷ es) (suc n) below =
+    let (head, rest) = both (is_lt (nat_cmp id e.0)) (below_all nat_cmp id es) below in
+    joined (is_lt (nat_cmp id e.0)) (below_all nat_cmp id (remove es n)) head (below_removed id es n rest)
+
+-- the ids go on to rise where one pair is taken out
+pub removed_sorted : (pairs : List (ℕ × List ℕ)) (n : ℕ) → T (is_sorted nat_cmp pairs) → T (is_sorted nat_cmp (remove pairs n))
+removed_sorted [] zero rise = tt
+removed_sorted [] (suc n) rise = tt
+removed_sorted (e ∷ es) zero rise = (both (below_all nat_cmp e.0 es) (is_sorted nat_cmp es) rise).1
+removed_sorted (e ∷ es) (suc n) rise =
+    let (head, rest) = both (below_all nat_cmp e.0 es) (is_sorted nat_cmp es) rise in
+    joined (below_all nat_cmp e.0 (remove es n)) (is_sorted nat_cmp (remove es n)) (below_removed e.0 es n head) (removed_sorted es n rest)
+
+-- the pairs of the values without one
+pub pairs_removed : {X : Type 0} (pair : X → ℕ × List ℕ) (xs : List X) (n : ℕ) → map pair (remove xs n) ≡ remove (map pair xs) n
+pairs_removed pair xs n =
+    map-append pair (take n xs) (drop (suc n) xs) ∙ (λ i. sym (take-map pair n xs) i ++ sym (drop-map pair (suc n) xs) i)

@@ -10,6 +10,7 @@ use Rattle.patterns.specs.Sequences.{Said, parts_said}
 use Rattle.engine.specs.Tables.{Slotted, Moved}
 use Rattle.engine.specs.declared.fragment.Fragment.{Fragment}
 use Rattle.records.specs.Book.{Book, said_by}
+use Rattle.records.specs.Calls.{after}
 use Rattle.records.specs.Entries.{Sequence, Signature, signature}
 use Rattle.records.specs.Refusals.{entry_refused, refused_from}
 use Rattle.catalogue.specs.Standing.{bodies, signature_pair}
@@ -59,3 +60,7 @@ signatures_in signatures = signatures_alone (bodies (map signature_pair signatur
 -- why a signature is refused where others stand
 abbrev pub signature_refused : {E K : Type 0} → Alphabet E → List (StandingSignature K) → Signature → Option Fault
 signature_refused a signatures s = entry_refused a (signatures_in signatures) (signature s)
+
+-- the pairs of ids and bodies with one more, or as they were where there is a refusal
+abbrev pub with_entry : Option Fault → List (ℕ × List ℕ) → ℕ → List ℕ → List (ℕ × List ℕ)
+with_entry refused pairs id body = after refused pairs (inserted pairs id body)

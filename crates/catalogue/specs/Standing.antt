@@ -11,7 +11,7 @@ use Rattle.engine.specs.declared.fragment.Fragment.{Fragment}
 use Rattle.patterns.specs.Sequences.{Said}
 use Rattle.records.specs.Book as book
 use Rattle.records.specs.Book.{Book, said_by}
-use Rattle.records.specs.Entries.{Signature}
+use Rattle.records.specs.Entries.{Signature, Format}
 use Rattle.records.specs.Lawful.{Lawful}
 use Rattle.records.specs.Taken as taken
 use Rattle.catalogue.specs.declared.formats.StandingFormat.{StandingFormat}
@@ -29,10 +29,21 @@ format_pair e = (e.format.id, e.body.items)
 abbrev pub bodies : List (ℕ × List ℕ) → FinMap nat_cmp (List ℕ)
 bodies pairs = map.from_sorted pairs
 
--- the book of signatures and formats
+-- the ids of entries rise
+abbrev pub Rise : List (ℕ × List ℕ) → Type 0
+Rise pairs = T (is_sorted nat_cmp pairs)
+
+-- the book of signatures and formats, by their ids and bodies
+abbrev pub book_of : List (ℕ × List ℕ) → List (ℕ × List ℕ) → Book
+book_of signatures formats = record { signatures = bodies signatures; formats = bodies formats }
+
+-- the book of standing signatures and formats
 abbrev pub book_in : {K : Type 0} → List (StandingSignature K) → List StandingFormat → Book
-book_in signatures formats =
-    record { signatures = bodies (map signature_pair signatures); formats = bodies (map format_pair formats) }
+book_in signatures formats = book_of (map signature_pair signatures) (map format_pair formats)
+
+-- standing formats, as entries
+abbrev pub formats_in : List StandingFormat → List Format
+formats_in formats = map (λ (e : StandingFormat). taken.format_in e.format) formats
 
 -- the slots of a sequence's fragments, if there is one
 abbrev pub slots_in : Option Slotted → List ℕ
@@ -77,13 +88,13 @@ FormatHeld e = book.format_in e.body.items ≡ Some (taken.format_in e.format)
 
 -- What signatures and a table hold together: the ids rise, each holds what its body says, and the slots are accounted for.
 pub record SignaturesHold {E K : Type 0} (a : Alphabet E) (signatures : List (StandingSignature K)) (table : List (Option Fragment)) : Type 0 where
-  pub rise : T (is_sorted nat_cmp (map signature_pair signatures))
+  pub rise : Rise (map signature_pair signatures)
   pub held : AllByRecursion (SignatureHeld a table) signatures
   pub accounted : Accounted table (used signatures)
 
 -- The same of formats.
 pub record FormatsHold (formats : List StandingFormat) : Type 0 where
-  pub rise : T (is_sorted nat_cmp (map format_pair formats))
+  pub rise : Rise (map format_pair formats)
   pub held : AllByRecursion FormatHeld formats
 
 -- What the fields of a catalogue hold together: their book is lawful.

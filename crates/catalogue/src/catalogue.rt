@@ -6,20 +6,15 @@ ghost use Rattle.records.specs.Calls.{withdrawing_format, withdrawing_signature}
 ghost use Rattle.records.specs.Calls.{withdrawn_format, withdrawn_signature, writing, wrote};
 ghost use Rattle.records.specs.Lawful.{Lawful};
 
-use crate::formats::StandingFormat;
-use crate::signatures::{self, StandingSignature};
+use crate::formats::{self, MOST_FORMATS, StandingFormat};
+use crate::signatures::{self, MOST_SIGNATURES, StandingSignature};
+use crate::standing::{self, Standing};
 use engine::Table;
 use faults::{Cause, Fault};
 use kinds::{Kind, Reading};
 use records::{Entry, Hit, Status, read};
 use std::alloc::{AllocError, Global};
 use std::marker::{Model, PhantomData};
-
-/// A catalogue holds at most this many signatures.
-pub const MOST_SIGNATURES: usize = 24;
-
-/// A catalogue holds at most this many formats.
-pub const MOST_FORMATS: usize = 48;
 
 /// A reading has at most this many elements.
 pub const LONGEST_READING: u32 = 16_777_216;
@@ -73,13 +68,46 @@ impl<K: Kind> Catalogue<K> {
         ensures answer { result ≡ entering K.alphabet self.old bytes.now }
         ensures stands { self.new ≡ entered K.alphabet self.old bytes.now }
     {
-        let body = &bytes[4..];
-        match read::<K>(bytes)? {
+        let (entry, body) = read::<K>(bytes)?;
+        match entry {
             Entry::Signature(signature) => {
                 signatures::enter(&mut self.signatures, &mut self.table, &signature, body)
             }
-            Entry::Format(_) => Err(Fault::outside(Cause::Taken, 0)),
+            Entry::Format(format) => {
+                formats::enter(&mut self.formats, &self.signatures, format, body)
+            }
         }
+    }
+
+    /// Withdraws a signature that no format names, and answers its id. Its fragments are freed, and
+    /// no other fragment changes.
+    pub fn withdraw_signature(&mut self, id: u16) -> Result<u16, Fault>
+        ensures answer { result ≡ withdrawing_signature self.old id }
+        ensures stands { self.new ≡ withdrawn_signature self.old id }
+    {
+        let Some(place) = standing::find(&self.signatures, id) else {
+            return Err(Fault::outside(Cause::Missing, usize::from(id)));
+        };
+        if let Some(format) = formats::first_naming(&self.formats, id) {
+            return Err(Fault::outside(Cause::Named, usize::from(format)));
+        }
+        signatures::withdraw(&mut self.signatures, &mut self.table, place);
+        Ok(id)
+    }
+
+    /// Withdraws a format that no other outranks, and answers its id.
+    pub fn withdraw_format(&mut self, id: u16) -> Result<u16, Fault>
+        ensures answer { result ≡ withdrawing_format self.old id }
+        ensures stands { self.new ≡ withdrawn_format self.old id }
+    {
+        let Some(place) = standing::find(&self.formats, id) else {
+            return Err(Fault::outside(Cause::Missing, usize::from(id)));
+        };
+        if let Some(format) = formats::first_outranking(&self.formats, id) {
+            return Err(Fault::outside(Cause::Named, usize::from(format)));
+        }
+        formats::withdraw(&mut self.formats, place);
+        Ok(id)
     }
 
     /// Every catalogue is lawful: each body that stands can be entered again, what it names stands,

@@ -1,6 +1,12 @@
 //! The catalogue: what stands, and the calls on it.
 #![tactic(auto)]
 
+mod catalogue;
 mod formats;
+mod report;
 mod signatures;
 mod standing;
+
+pub use catalogue::{Catalogue, LONGEST_READING};
+pub use formats::MOST_FORMATS;
+pub use signatures::MOST_SIGNATURES;

@@ -1,13 +1,14 @@
 //! Signatures that stand.
-ghost use Rattle.std.specs.Prelude.{◌≡◌, ◌≤◌, Some, None, IfOk, IfErr, OnOk, length, map};
+ghost use Rattle.std.specs.Prelude.{◌≡◌, ◌<◌, ◌≤◌, Some, None, IfOk, IfErr, OnOk, length, map, remove, vec_len};
+ghost use Rattle.std.specs.List.{flat_map};
 ghost use Rattle.std.specs.Vec.{vec_capacity};
-ghost use Rattle.engine.specs.Tables.{free_slots};
+ghost use Rattle.engine.specs.Tables.{cleared, free_slots};
 ghost use Rattle.records.specs.Book as book;
 ghost use Rattle.records.specs.Calls.{after, unless};
 ghost use Rattle.records.specs.Refusals.{refused_from};
 ghost use Rattle.records.specs.Taken.{signature_in};
 ghost use Rattle.catalogue.specs.Entering.{fragment_count, fragment_total, inserted, signature_refused, Compiles, MovedAll, MovedIf};
-ghost use Rattle.catalogue.specs.Standing.{signature_pair, SignatureHeld, SignaturesHold};
+ghost use Rattle.catalogue.specs.Standing.{signature_pair, slots_in, SignatureHeld, SignaturesHold};
 
 use crate::standing::{Standing, find, place_of};
 use arrayvec::ArrayVec;
@@ -187,4 +188,35 @@ pub(crate) fn enter<K: Kind>(
         Ok(()) => Ok(signature.id),
         Err(_) => unreachable!(),
     }
+}
+
+// Frees the slots of sequences.
+fn clear_all<K: Kind>(
+    sequences: ArrayVec<Option<InTable<K>>, MOST_SEQUENCES>,
+    table: &mut Table,
+)
+    ensures { table.new ≡ cleared table.old (flat_map slots_in sequences.items) }
+{
+    for sequence in sequences {
+        if let Some(sequence) = sequence {
+            sequence.clear(table);
+        }
+    }
+}
+
+// Withdraws the signature at a place: takes it out, and frees the slots of its fragments.
+pub(crate) fn withdraw<K: Kind>(
+    signatures: &mut Vec<StandingSignature<K>>,
+    table: &mut Table,
+    place: usize,
+)
+    requires place { place < vec_len signatures.old }
+    requires holds { SignaturesHold K.alphabet signatures.old.items table.old }
+    ensures pairs { map signature_pair signatures.new.items
+        ≡ remove (map signature_pair signatures.old.items) place }
+    ensures holds { SignaturesHold K.alphabet signatures.new.items table.new }
+    ensures room { vec_capacity signatures.new ≡ vec_capacity signatures.old }
+{
+    let withdrawn = signatures.remove(place);
+    clear_all(withdrawn.sequences, table);
 }

@@ -1,5 +1,7 @@
 //! Entries that stand, by rising id.
-ghost use Rattle.std.specs.Prelude.{◌≡◌, ℕ, List, position, count_by, nat_lt, ◌==◌};
+ghost use Rattle.std.specs.Prelude.{◌≡◌, ℕ, List, map, position, count_by, nat_lt, ◌==◌};
+ghost use Rattle.std.specs.FinMap.{contains_key};
+ghost use Rattle.catalogue.specs.Standing.{bodies, Rise};
 
 /// An entry that stands: it has an id and a body.
 pub(crate) trait Standing {
@@ -26,4 +28,12 @@ pub(crate) fn place_of<S: Standing>(standing: &[S], id: u16) -> usize
     ensures { result ≡ count_by (λ s. nat_lt (S.pair s).0 id) standing.now }
 {
     standing.iter().filter(|s| s.id() < id).count()
+}
+
+// Whether an id stands.
+pub(crate) fn stands<S: Standing>(standing: &[S], id: u16) -> bool
+    requires { Rise (map S.pair standing.now) }
+    ensures { result ≡ contains_key (bodies (map S.pair standing.now)) id }
+{
+    standing.iter().any(|s| s.id() == id)
 }

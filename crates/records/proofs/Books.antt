@@ -45,7 +45,7 @@ turned true c x y e = ap (λ d. cond d y x) e
 turned false c x y e = ap (λ d. cond d y x) e
 
 -- what is not some is none
-none_from : {A : Type 0} (o : Option A) → is_some o ≡ false → o ≡ None
+pub none_from : {A : Type 0} (o : Option A) → is_some o ≡ false → o ≡ None
 none_from None e = refl
 none_from (Some x) e = cc
 

@@ -27,12 +27,12 @@ use Rattle.records.proofs.Members.{contains_map, contains_filter_map, holds_of, 
 -- Refusals that do not hold.
 
 -- of two choices, neither is there
-neither : {A : Type 0} (o p : Option A) → option_or o p ≡ None → (o ≡ None) × (p ≡ None)
+pub neither : {A : Type 0} (o p : Option A) → option_or o p ≡ None → (o ≡ None) × (p ≡ None)
 neither None p e = (refl, e)
 neither (Some x) p e = cc
 
 -- a refusal that is not there failed its test
-not_refused : (b : Bool) (f : Fault) → refused_if b f ≡ None → b ≡ false
+pub not_refused : (b : Bool) (f : Fault) → refused_if b f ≡ None → b ≡ false
 not_refused true f e = cc
 not_refused false f e = refl
 
@@ -126,7 +126,7 @@ other_id id ids q none here is =
     let among = (among_decides id ids).1 (subst (λ n. Contains ids n) is here) in cc
 
 -- the bytes of a body are bytes of its record
-body_bytes : (bytes : List ℕ) → AllByRecursion (λ b. b < 256) bytes → AllByRecursion (λ b. b < 256) (drop 4 bytes)
+pub body_bytes : (bytes : List ℕ) → AllByRecursion (λ b. b < 256) bytes → AllByRecursion (λ b. b < 256) (drop 4 bytes)
 body_bytes bytes all = recursion_from_All _ (drop 4 bytes) (All-drop (λ b. b < 256) 4 bytes (All-from_recursion _ bytes all))
 
 -- what holds of all entries holds of those that are left

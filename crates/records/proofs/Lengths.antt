@@ -3,7 +3,7 @@ use Rattle.std.proofs.Common.{◌≡◌, ℕ, ◌+◌, ◌*◌, ◌<◌, ◌≤�
 use Rattle.std.specs.List.{AllByRecursion, flat_map}
 use Rattle.patterns.specs.declared.reference.Reference.{Reference}
 use Rattle.patterns.specs.declared.reference.Reference.TheVariants.{Front, Back, Anywhere}
-use Rattle.records.specs.Entries.{Sequence, Entry, signature, format, word, joined, reference_fields, text_fields, sequence_fields, id_fields, body_of, IsSequence, IsLabel, IsEntry}
+use Rattle.records.specs.Entries.{Sequence, Signature, Format, Entry, signature, format, word, joined, reference_fields, text_fields, sequence_fields, id_fields, body_of, IsSequence, IsSignature, IsLabel, IsFormat, IsEntry}
 use Rattle.records.proofs.Readers.{joined-append}
 
 -- the bytes of fields, and then of others
@@ -17,39 +17,34 @@ length_each Fits F most each (x ∷ xs) h =
     let others = length_each Fits F most each xs h.1 in
     omega (arith, length_both (F x) (flat_map F xs), each x h.0, others)
 
--- a text has one byte more than its characters
 length_text : (text : List ℕ) → length (joined (text_fields text)) ≡ length text + 1
 length_text text = omega (arith, length-append text [])
 
--- a reference has five bytes
 length_reference : (reference : Reference) → length (joined (reference_fields reference)) ≡ 5
 length_reference (Front least most) = refl
 length_reference (Back least most) = refl
 length_reference Anywhere = refl
 
--- a sequence has at most 206 bytes
 length_sequence : (q : Sequence) → IsSequence q → length (joined (sequence_fields q)) ≤ 206
 length_sequence q h = omega (arith, length_both (reference_fields q.reference) (text_fields q.text), length_reference q.reference, length_text q.text, h.few)
 
--- an id has two bytes
 length_ids : (ids : List ℕ) → length (joined (map word ids)) ≡ 2 * length ids
 length_ids [] = refl
 length_ids (id ∷ ids) = omega (arith, length_ids ids)
 
--- so have ids, behind a byte for their number
 length_id_fields : (ids : List ℕ) → length (joined (id_fields ids)) ≡ 2 * length ids + 1
 length_id_fields ids = omega (arith, length_ids ids)
 
--- a label has at most nine bytes
 length_label : (label : List ℕ) → IsLabel label → length (joined (text_fields label)) ≤ 9
 length_label label h = omega (arith, length_text label, h.few)
 
--- the length of a body fits two bytes
-pub body_fits : (e : Entry) → IsEntry e → length (body_of e) < 65536
-body_fits (signature s) h =
-    let sequences = length_each IsSequence sequence_fields 206 length_sequence s.sequences h.each in
-    omega (arith, sequences, h.few)
-body_fits (format f) h =
+-- a signature's body has 828 bytes at most
+pub signature_length : (s : Signature) → IsSignature s → length (body_of (signature s)) ≤ 828
+signature_length s h = omega (arith, length_each IsSequence sequence_fields 206 length_sequence s.sequences h.each, h.few)
+
+-- and a format's 114
+pub format_length : (f : Format) → IsFormat f → length (body_of (format f)) ≤ 114
+format_length f h =
     let labels = length_each IsLabel text_fields 9 length_label f.labels h.labels in
     let name = text_fields f.name in
     let signatures = id_fields f.signatures in
@@ -68,3 +63,8 @@ body_fits (format f) h =
       length_both (name ++ signatures) outranked,
       length_both name signatures,
     )
+
+-- the length of a body fits two bytes
+pub body_fits : (e : Entry) → IsEntry e → length (body_of e) < 65536
+body_fits (signature s) h = omega (arith, signature_length s h)
+body_fits (format f) h = omega (arith, format_length f h)

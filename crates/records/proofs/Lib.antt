@@ -1,10 +1,12 @@
 pub mod Alone
 pub mod Bodies
 pub mod Books
+pub mod Bounds
 pub mod Examples
 pub mod Fields
 pub mod Formats
 pub mod Keeping
+pub mod Labels
 pub mod Lengths
 pub mod Loops
 pub mod Members

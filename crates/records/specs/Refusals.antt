@@ -73,11 +73,15 @@ names_missing book f = option_map (outside Missing) (missing_id book f)
 abbrev pub formats_full : Book → Option Fault
 formats_full book = refused_if (nat_le most_formats (map.len book.formats)) (outside Full 3)
 
+-- why a format is refused
+abbrev pub format_refused : Book → Format → Option Fault
+format_refused book f = first_of (format_taken book f ∷ names_missing book f ∷ formats_full book ∷ [])
+
 -- why an entry is refused
 abbrev pub entry_refused : {E : Type 0} → Alphabet E → Book → Entry → Option Fault
 entry_refused a book (signature s) =
     first_of (signature_taken book s ∷ text_refused a s ∷ signatures_full book ∷ fragments_full a book s ∷ [])
-entry_refused a book (format f) = first_of (format_taken book f ∷ names_missing book f ∷ formats_full book ∷ [])
+entry_refused a book (format f) = format_refused book f
 
 -- Withdrawing.
 

@@ -1,9 +1,10 @@
 -- What the code reads from records, in the words of `Reading`.
-use Rattle.std.specs.Prelude.{◌≡◌, ℕ, Bool, true, List, map, Ok, Err, Result, ◌==◌}
+use Rattle.std.specs.Prelude.{◌≡◌, ℕ, ◌≤◌, Bool, true, List, map, length, Some, Ok, Err, Result, ◌==◌}
 use Rattle.std.specs.List.{list_any}
 use Rattle.faults.specs.Faults.{outside}
 use Rattle.faults.specs.declared.fault.Cause.TheVariants.{Field}
 use Rattle.faults.specs.declared.fault.Fault.{Fault}
+use Rattle.records.specs.Book as book
 use Rattle.records.specs.Entries as entry
 use Rattle.records.specs.Entries.{printable, label_character}
 use Rattle.records.specs.Reading as reading
@@ -75,7 +76,12 @@ abbrev pub entry_in : Entry → entry.Entry
 entry_in (entered.Signature s) = entry.signature (signature_in s)
 entry_in (entered.Format f) = entry.format (format_in f)
 
--- what reading answers
-abbrev pub answer_in : Result Entry Fault → Result entry.Entry Fault
-answer_in (Ok e) = Ok (entry_in e)
+-- what reading answers, beside a body
+abbrev pub answer_in : {B : Type 0} → Result (Entry × B) Fault → Result entry.Entry Fault
+answer_in (Ok x) = Ok (entry_in x.0)
 answer_in (Err f) = Err f
+
+-- a body reads as an entry, and is so long at most
+abbrev pub IsBody : Entry → List ℕ → Type 0
+IsBody (entered.Signature s) body = (book.signature_in body ≡ Some (signature_in s)) × (length body ≤ 828)
+IsBody (entered.Format f) body = (book.format_in body ≡ Some (format_in f)) × (length body ≤ 114)

@@ -5,6 +5,7 @@ mod format;
 mod record;
 mod report;
 mod rest;
+mod rules;
 mod signature;
 #[cfg(test)]
 mod tests;

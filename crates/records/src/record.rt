@@ -1,8 +1,8 @@
 //! Records: their kinds, their bodies and their entries.
-ghost use Rattle.std.specs.Prelude.{◌≡◌};
+ghost use Rattle.std.specs.Prelude.{◌≡◌, drop, IfOk};
 ghost use Rattle.records.specs.Calls.{entry_read};
 ghost use Rattle.records.specs.Reading.{kind_at};
-ghost use Rattle.records.specs.Taken.{answer_in, kind_and_body, wanted_in, Gives};
+ghost use Rattle.records.specs.Taken.{answer_in, kind_and_body, wanted_in, Gives, IsBody};
 
 use crate::format::Format;
 use crate::signature::Signature;
@@ -57,17 +57,20 @@ impl<'r> Record<'r> {
     }
 }
 
-/// The entry of a record of one of a kind's two kinds, or the refusal of the first field, listed
-/// id or byte that is at fault. The place is its offset in the record.
+/// The entry of a record of a kind's signatures or formats, and its body; or the refusal of the first
+/// field, listed id or byte that is at fault. The place is its offset in the record.
 #[tactic(auto, unfolding(crate::specs::Reading::entry_at))]
-pub fn read<K: Kind>(bytes: &[u8]) -> Result<Entry<'_>, Fault>
-    ensures { answer_in result ≡ entry_read K.alphabet bytes.now }
+pub fn read<K: Kind>(bytes: &[u8]) -> Result<(Entry<'_>, &[u8]), Fault>
+    ensures entry { answer_in result ≡ entry_read K.alphabet bytes.now }
+    ensures body { IfOk result (λ x. x.1.now ≡ drop 4 bytes.now) }
+    ensures fits { IfOk result (λ x. IsBody x.0 x.1.now) }
 {
     let signature_kind = K::signature_record();
     let found = Record::of(bytes, &[signature_kind, K::format_record()])?;
-    if found.kind == signature_kind {
-        Ok(Entry::Signature(Signature::of_body(found.body)?))
+    let entry = if found.kind == signature_kind {
+        Entry::Signature(Signature::of_body(found.body)?)
     } else {
-        Ok(Entry::Format(Format::of_body(found.body)?))
-    }
+        Entry::Format(Format::of_body(found.body)?)
+    };
+    Ok((entry, found.body))
 }

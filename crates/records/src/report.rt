@@ -63,6 +63,17 @@ pub struct Hit {
     pub mismatch: bool,
 }
 
+/// A place in a list for reports, before one is written.
+impl Default for Hit {
+    fn default() -> Self {
+        Hit {
+            id: 0,
+            status: HitStatus::Tentative,
+            mismatch: false,
+        }
+    }
+}
+
 /// The id, the status, and `mismatch` if the format warns, a space before each but the first.
 impl fmt::Display for Hit {
     ghost output = { λ hit. Some (hit_text hit) };

@@ -6,7 +6,7 @@ use Rattle.records.specs.Calls.{after}
 use Rattle.records.specs.Taken.{signature_in}
 use Rattle.catalogue.specs.Entering.{inserted, signature_refused}
 use Rattle.catalogue.specs.Standing.{signature_pair, SignaturesHold}
-use Rattle.catalogue.proofs.Held.{inserted_holds}
+use Rattle.catalogue.proofs.HeldSignatures.{inserted_holds}
 use Rattle.catalogue.proofs.Refusing.{fresh}
 use Rattle.catalogue.proofs.Sorted.{inserted_sorted, pairs_inserted}
 use Rattle.catalogue.proofs.signatures.enter.Goals as goal

@@ -80,7 +80,7 @@ word_taken r x e =
     same ∙ bytes_taken 2 r field.0 field.1
 
 -- behind the head of a record stands its body
-kind_taken : (kinds : ℕ → Bool) (bytes : List ℕ) (x : ℕ × Rest) → kind_at kinds bytes ≡ Ok x → x.1 ≡ record { place = 4; bytes = drop 4 bytes }
+pub kind_taken : (kinds : ℕ → Bool) (bytes : List ℕ) (x : ℕ × Rest) → kind_at kinds bytes ≡ Ok x → x.1 ≡ record { place = 4; bytes = drop 4 bytes }
 unfolding kind_at
 kind_taken kinds bytes x e =
     let whole : Rest = record { place = 0; bytes = bytes } in

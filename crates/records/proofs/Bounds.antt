@@ -1,14 +1,14 @@
 -- How long a body is that is read.
-use Rattle.std.proofs.Common.{◌≡◌, ℕ, suc, ◌≤◌, ◌==◌, Fits, w8, List, [], ◌∷◌, length, get_or, Some, Ok, sym, ap, subst, arith, length-append}
+use Rattle.std.proofs.Common.{◌≡◌, ℕ, suc, ◌≤◌, ◌==◌, Fits, w8, List, [], ◌∷◌, length, get_or, Some, Ok, ap, subst, arith, length-append}
 use Rattle.std.proofs.lemmas.Bool.{eqb-true}
 use Rattle.records.specs.Book.{signature_in, format_in}
 use Rattle.records.specs.Entries.{Signature, Format, joined, signature_fields, format_fields, IsSignature, IsFormat}
 use Rattle.records.specs.Laws.{IsBytes}
 use Rattle.records.specs.Reading.{Rest, Read, ended, signature_at, format_at, signature_of, format_of}
-use Rattle.records.proofs.Bodies.{passed, ok_inside}
+use Rattle.records.proofs.Bodies.{ok_inside}
 use Rattle.records.proofs.Formats.{format_reads}
 use Rattle.records.proofs.Lengths.{signature_length, format_length}
-use Rattle.records.proofs.Readers.{Reader, Anything, Spelled, bind_ok}
+use Rattle.records.proofs.Readers.{Reader, Anything, Spelled, bind_ok, guard_ok}
 use Rattle.records.proofs.Signatures.{signature_reads}
 
 -- the bytes of a slice are below 256
@@ -21,11 +21,11 @@ as_long : {A : Type 0} (Has : A → Type 0) (F : A → List (List ℕ)) (P : Res
     → IsBytes r.bytes → ended (P r) ≡ Ok y → Has y × (length r.bytes ≡ length (joined (F y)))
 as_long Has F P reads r y fits e =
     let x = bind_ok (P r) _ y e in
-    let last = passed (length x.0.1.bytes == 0) x.0.0 x.0.1.place y x.2 in
+    let last = guard_ok (length x.0.1.bytes == 0) x.0.0 y x.0.1.place x.2 in
     let none : length x.0.1.bytes ≡ 0 = eqb-true (length x.0.1.bytes) 0 last.0 in
     let taken = reads.taken r x.0.1 x.0.0 fits x.1 in
     let spelled : length (joined taken.0) ≡ length (joined (F x.0.0)) = ap (λ fields. length (joined fields)) taken.1.spelled in
-    subst (λ z. Has z × (length r.bytes ≡ length (joined (F z)))) (sym last.1)
+    subst (λ z. Has z × (length r.bytes ≡ length (joined (F z)))) last.1
     (taken.1.fits, omega (arith, ap (λ (bytes : List ℕ). length bytes) taken.2.bytes, length-append (joined taken.0) x.0.1.bytes))
 
 -- a body that reads as a signature has 828 bytes at most

@@ -10,7 +10,7 @@ top=$(cd "$(dirname "$0")/.." && pwd)
 work=$(mktemp -d)
 trap 'rm -rf "$work"' EXIT
 mkdir -p "$work/crates"
-for crate in faults kinds patterns rows engine; do
+for crate in faults kinds patterns rows lexer engine; do
     cp -r "$top/crates/$crate" "$work/crates/$crate"
     rm -rf "$work/crates/$crate/must-fail" "$work/crates/$crate/out"
 done
@@ -67,7 +67,7 @@ fn main() {
     }
 }
 PROGRAM
-grep -E '^(faults|kinds|patterns|rows|engine):' "$top/crates.txt" >"$work/crates.txt"
+grep -E '^(faults|kinds|patterns|rows|lexer|engine):' "$top/crates.txt" >"$work/crates.txt"
 printf '%s\n' 'handed_over_twice: kinds' 'written_under_reading: kinds' 'lawful: kinds' \
     'marks_in_bytes: engine kinds' >>"$work/crates.txt"
 cd "$work"

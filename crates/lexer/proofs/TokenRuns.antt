@@ -54,6 +54,7 @@ abbrev pub left_slices : Option Slice → List (List ℕ)
 left_slices None = []
 left_slices (Some s) = between_bars s.text
 
+-- the same of what the code holds
 abbrev pub left_of : Option RunsText → List (List ℕ)
 left_of rest = left_slices (option_map runs_slice rest)
 

@@ -4,3 +4,4 @@ pub mod Slots
 pub mod Held
 pub mod Refusing
 pub mod Withdrawn
+pub mod Reported

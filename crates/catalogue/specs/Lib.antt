@@ -1,2 +1,3 @@
 pub mod Entering
 pub mod Standing
+pub mod Hitting

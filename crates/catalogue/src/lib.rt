@@ -2,5 +2,6 @@
 #![tactic(auto)]
 
 mod formats;
+mod hitting;
 mod signatures;
 mod standing;

@@ -18,13 +18,10 @@ use engine::{InTable, Sequence, Table};
 use faults::{Cause, Fault};
 use kinds::{Kind, Reading};
 use patterns::Reference;
-use records::Signature;
+use records::{MOST_SEQUENCES, Signature};
 
 /// A catalogue holds at most this many signatures.
 pub const MOST_SIGNATURES: usize = 24;
-
-// A signature has at most this many sequences.
-const MOST_SEQUENCES: usize = 4;
 
 // The body of a signature has at most this many bytes: 4, and for each sequence 6 and the text.
 const LONGEST_BODY: usize = 828;

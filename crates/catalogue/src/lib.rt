@@ -7,6 +7,6 @@ mod report;
 mod signatures;
 mod standing;
 
-pub use catalogue::{Catalogue, LONGEST_READING};
-pub use formats::MOST_FORMATS;
-pub use signatures::MOST_SIGNATURES;
+pub use catalogue::{Catalogue, LONGEST_READING, MOST_FORMATS, MOST_SIGNATURES};
+pub use faults::{Cause, Fault, FaultLine};
+pub use records::{Hit, HitStatus, Status};

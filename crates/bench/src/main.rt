@@ -8,18 +8,24 @@ use std::process::ExitCode;
 use std::{env, fs};
 
 mod complaint;
+mod identify;
 mod measure;
 mod request;
 
 use complaint::Complaint;
+use identify::identified;
 use measure::measured;
-use request::{Asked, Request};
+use request::{Asked, Question, Request};
 
 const USAGE: &str = "\
 usage: bench FILE TEXT [RUNS] [backward]
+       bench --identify RECORDS FILE [RUNS]
 
 Searches the bytes of FILE for the pattern TEXT, anywhere, and prints hit or miss, the least time of
-RUNS searches (5 where none are given) and the speed.";
+RUNS searches (5 where none are given) and the speed.
+
+With --identify, enters the records of RECORDS, identifies FILE without a label, and prints the
+status, the number of hits, and the least time of RUNS times a thousand questions, for one question.";
 
 // The measure of a request's search, or the refusal of its text, as a line.
 fn answer(rt: &HostRuntime, request: Request) -> Result<String, Complaint> {
@@ -38,6 +44,23 @@ fn answer(rt: &HostRuntime, request: Request) -> Result<String, Complaint> {
     Ok(format!(in alloc; "{measure}")?)
 }
 
+// The answer to a question, as a line.
+fn report(rt: &HostRuntime, question: Question) -> Result<String, Complaint> {
+    let alloc = rt.alloc();
+    let records = fs::read(rt, question.records).map_err(Complaint::Unreadable)?;
+    let file = fs::read(rt, question.file).map_err(Complaint::Unreadable)?;
+    match identified(
+        alloc,
+        rt,
+        records.as_slice(),
+        file.as_slice(),
+        question.runs,
+    )? {
+        Ok(identified) => Ok(format!(in alloc; "{identified}")?),
+        Err(fault) => Ok(fault.line().to_string(alloc)?),
+    }
+}
+
 // Prints the answer to the words of the call.
 fn run(rt: &HostRuntime) -> Result<(), Complaint> {
     let args: Vec<String> = env::args(rt)?.skip(1).collect(rt.alloc())?;
@@ -47,6 +70,10 @@ fn run(rt: &HostRuntime) -> Result<(), Complaint> {
         Asked::Search(request) => {
             let answer = answer(rt, request)?;
             rt.println(answer.as_str()).map_err(Complaint::Output)
+        }
+        Asked::Identify(question) => {
+            let report = report(rt, question)?;
+            rt.println(report.as_str()).map_err(Complaint::Output)
         }
     }
 }

@@ -18,6 +18,17 @@ pub struct Request<'w> {
     pub order: Order,
 }
 
+/// The file's elements are identified by the records of another file, a number of times.
+#[derive(Clone, Copy)]
+pub struct Question<'w> {
+    /// The path of the file of records.
+    pub records: &'w str,
+    /// The path of the reading's file.
+    pub file: &'w str,
+    /// How often it is asked.
+    pub runs: u32,
+}
+
 /// What a call asks for.
 #[derive(Clone, Copy)]
 pub enum Asked<'w> {
@@ -25,6 +36,22 @@ pub enum Asked<'w> {
     Usage,
     /// A search.
     Search(Request<'w>),
+    /// A report.
+    Identify(Question<'w>),
+}
+
+// What the words behind `--identify` ask for.
+fn question<'w>(words: &[&'w str]) -> Result<Question<'w>, Complaint> {
+    let (records, file, runs) = match words {
+        [records, file] => (*records, *file, RUNS),
+        [records, file, runs] => (*records, *file, runs_of(runs)?),
+        _ => return Err(Complaint::Words),
+    };
+    Ok(Question {
+        records,
+        file,
+        runs,
+    })
 }
 
 /// What the words behind the program's name ask for.
@@ -34,6 +61,7 @@ impl<'w> TryFrom<&[&'w str]> for Asked<'w> {
     fn try_from(words: &[&'w str]) -> Result<Asked<'w>, Complaint> {
         let (file, text, runs, order) = match words {
             [] | ["--help"] => return Ok(Asked::Usage),
+            ["--identify", rest @ ..] => return Ok(Asked::Identify(question(rest)?)),
             [file, text] => (file, text, RUNS, Order::Forward),
             [file, text, "backward"] => (file, text, RUNS, Order::Backward),
             [file, text, runs] => (file, text, runs_of(runs)?, Order::Forward),

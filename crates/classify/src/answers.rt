@@ -1,6 +1,6 @@
 //! The answers to records.
-use crate::lane::Lane;
 use catalogue::{Catalogue, Cause, Fault, Hit, HitStatus};
+use lanes::Lane;
 use records::Record;
 use std::alloc::{AllocError, Global};
 use std::fmt::Write;

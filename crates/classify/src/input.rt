@@ -59,7 +59,10 @@ impl<R: Read> Input<R> {
             if missing == 0 {
                 break;
             }
-            let read = self.from.read(&mut chunk[..missing]).map_err(Failure::Input)?;
+            let read = self
+                .from
+                .read(&mut chunk[..missing])
+                .map_err(Failure::Input)?;
             if read == 0 {
                 break;
             }

@@ -6,7 +6,6 @@ use std::process::ExitCode;
 
 mod answers;
 mod input;
-mod lane;
 mod stream;
 
 use stream::answer_all;

@@ -1,10 +1,10 @@
 //! A stream of records, answered one after the other.
 use crate::answers::{answer, kind_of, too_long};
 use crate::input::{Input, Next};
-use crate::lane::Lane;
 use catalogue::Catalogue;
 use command::Failure;
 use kinds::{Byte, Mark};
+use lanes::Lane;
 use std::alloc::Global;
 use std::io::{BufReader, Read};
 

@@ -1,3 +1,4 @@
 pub mod Changes
 pub mod Held
 pub mod Reporting
+pub mod Writing

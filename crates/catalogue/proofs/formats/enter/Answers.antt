@@ -28,9 +28,9 @@ returns-clause-pairs g c =
     let place : c.place_of-place.result ≡ count_by (λ (s : StandingFormat). ltb s.format.id c.args.format.id) formats = cc in
     let stands : c.insert.new.self.items ≡ insert formats (count_by (λ (s : StandingFormat). ltb s.format.id c.args.format.id) formats) entry = c.in-Ok-insert.ensures.items ∙ ap (λ i. insert formats i entry) place in
     subst
-        (λ o. map format_pair c.insert.new.self.items ≡ with_entry o (map format_pair formats) c.args.format.id c.args.body.now)
-        (sym none)
-        (ap (map format_pair) stands ∙ inserted_pairs format_pair formats entry ∙ ap (inserted (map format_pair formats) c.args.format.id) c.in-Ok.ensures.0)
+    (λ o. map format_pair c.insert.new.self.items ≡ with_entry o (map format_pair formats) c.args.format.id c.args.body.now)
+    (sym none)
+    (ap (map format_pair) stands ∙ inserted_pairs format_pair formats entry ∙ ap (inserted (map format_pair formats) c.args.format.id) c.in-Ok.ensures.0)
 
 pub returns-clause-holds : goal.returns-clause-holds
 returns-clause-holds g c =

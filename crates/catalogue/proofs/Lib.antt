@@ -8,3 +8,4 @@ pub mod Reporting
 pub mod Slots
 pub mod Sorted
 pub mod Withdrawn
+pub mod Writing

@@ -1,3 +1,4 @@
 pub mod Entering
 pub mod Reporting
 pub mod Standing
+pub mod Writing

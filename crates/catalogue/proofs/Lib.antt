@@ -4,6 +4,7 @@ pub mod Held
 pub mod HeldSignatures
 pub mod Moving
 pub mod Refusing
+pub mod Reported
 pub mod Reporting
 pub mod Slots
 pub mod Sorted

@@ -1,15 +1,14 @@
 -- Signatures that stand, and what they hold once one is taken out and its slots are freed.
-use Rattle.std.proofs.Common.{◌≡◌, ℕ, zero, suc, ◌+◌, ◌<◌, T, List, [], ◌∷◌, ◌++◌, map, length, get_or, set, take, drop, Some, None, Option, refl, sym, ap, ◌∙◌, subst, arith}
+use Rattle.std.proofs.Common.{◌≡◌, ℕ, suc, ◌<◌, T, List, [], ◌∷◌, ◌++◌, map, length, get_or, set, take, drop, Some, None, Option, refl, sym, ap, ◌∙◌, subst, arith}
 use Rattle.std.specs.FinMap.{is_sorted}
-use Rattle.std.specs.FinMap.Entries.{below_all}
-use Rattle.std.specs.List.{flat_map, remove, AllByRecursion, Contains}
-use Rattle.std.specs.Ordering.{nat_cmp, is_lt}
+use Rattle.std.specs.List.{flat_map, remove, AllByRecursion}
+use Rattle.std.specs.Ordering.{nat_cmp}
 use Rattle.std.proofs.Math.Seq.{drop-cons}
-use Rattle.std.proofs.lemmas.List.{length-append, take-append-drop, map-append, take-map, drop-map}
+use Rattle.std.proofs.lemmas.List.{length-append, take-append-drop}
 use Rattle.std.proofs.lemmas.List.Concat.{flat_map-append}
 use Rattle.std.proofs.lemmas.List.Elements.{Contains-append_left, Contains-append_right}
 use Rattle.kinds.specs.Alphabet.{Alphabet}
-use Rattle.engine.specs.Tables.{Slotted, IsFilled, Distinct, Apart, cleared, free_slots}
+use Rattle.engine.specs.Tables.{Slotted, IsFilled, Apart, cleared}
 use Rattle.engine.specs.declared.fragment.Fragment.{Fragment}
 use Rattle.engine.proofs.Tables.{stands_on, front_distinct}
 use Rattle.catalogue.specs.Standing.{signature_pair, slots_in, slots_of, used, Accounted, StandsInIf, SignatureHeld, SignaturesHold}

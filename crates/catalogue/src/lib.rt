@@ -3,6 +3,7 @@
 
 mod catalogue;
 mod formats;
+mod hitting;
 mod report;
 mod signatures;
 mod standing;

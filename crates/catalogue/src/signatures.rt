@@ -2,26 +2,26 @@
 ghost use Rattle.std.specs.Prelude.{◌≡◌, ◌<◌, ◌≤◌, Some, None, IfOk, IfErr, OnOk, length, map, remove, vec_len};
 ghost use Rattle.std.specs.List.{flat_map};
 ghost use Rattle.std.specs.Vec.{vec_capacity};
+ghost use Rattle.patterns.specs.Codes.{codes_of};
 ghost use Rattle.engine.specs.Tables.{cleared, free_slots};
 ghost use Rattle.records.specs.Book as book;
 ghost use Rattle.records.specs.Calls.{after, unless};
 ghost use Rattle.records.specs.Refusals.{refused_from};
 ghost use Rattle.records.specs.Taken.{signature_in};
 ghost use Rattle.catalogue.specs.Entering.{fragment_count, fragment_total, inserted, signature_refused, Compiles, MovedAll, MovedIf};
-ghost use Rattle.catalogue.specs.Standing.{signature_pair, slots_in, SignatureHeld, SignaturesHold};
+ghost use Rattle.catalogue.specs.Hitting.{hits_if, offsets_if};
+ghost use Rattle.catalogue.specs.Standing.{signature_pair, slots_in, SignatureHeld, SignaturesHold, StandsInIf};
 
 use crate::standing::{Standing, find, place_of};
 use arrayvec::ArrayVec;
 use engine::{InTable, Sequence, Table};
 use faults::{Cause, Fault};
 use kinds::{Kind, Reading};
-use records::Signature;
+use patterns::Reference;
+use records::{MOST_SEQUENCES, Signature};
 
 /// A catalogue holds at most this many signatures.
 pub const MOST_SIGNATURES: usize = 24;
-
-// A signature has at most this many sequences.
-const MOST_SEQUENCES: usize = 4;
 
 // The body of a signature has at most this many bytes: 4, and for each sequence 6 and the text.
 const LONGEST_BODY: usize = 828;
@@ -46,6 +46,77 @@ impl<K> Standing for StandingSignature<K> {
 
     fn body(&self) -> &[u8] {
         self.body.as_slice()
+    }
+}
+
+// Whether a sequence, if there is one, has offsets.
+fn has_offsets<K: Kind>(sequence: &Option<InTable<K>>) -> bool
+    ensures { result ≡ offsets_if sequence.now }
+{
+    match sequence {
+        Some(sequence) => !matches!(sequence.reference(), Reference::Anywhere),
+        None => false,
+    }
+}
+
+// Whether a sequence, if there is one, hits a reading.
+fn hits_if<K: Kind, R: Reading<Element = K>>(
+    sequence: &Option<InTable<K>>,
+    table: &Table,
+    reading: &R,
+) -> bool
+    requires { StandsInIf table.now sequence.now }
+    ensures { result ≡ hits_if (codes_of K.alphabet (R.elements reading.now)) sequence.now }
+{
+    match sequence {
+        Some(sequence) => sequence.hits(table, reading),
+        None => false,
+    }
+}
+
+impl<K: Kind> StandingSignature<K> {
+    ghost use Rattle.std.specs.List.{list_all, AllByRecursion};
+    ghost use Rattle.catalogue.specs.Hitting.{hits_among, numbers_in, standing_hits};
+
+    // Whether the sequences with offsets hit a reading, or those without.
+    fn part_hits<R: Reading<Element = K>>(&self, table: &Table, reading: &R, offsets: bool) -> bool
+        requires { AllByRecursion (StandsInIf table.now) self.now.sequences.items }
+        ensures { result ≡ list_all
+            (hits_among offsets (codes_of K.alphabet (R.elements reading.now)))
+            self.now.sequences.items }
+    {
+        for sequence in self.sequences.as_slice() {
+            if has_offsets(sequence) == offsets && !hits_if(sequence, table, reading) {
+                return false;
+            }
+        }
+        true
+    }
+
+    // Whether it hits a reading: all its sequences do. Those with offsets are tried first, since
+    // they are looked for in a part of the reading.
+    pub(crate) fn hits<R: Reading<Element = K>>(&self, table: &Table, reading: &R) -> bool
+        requires { AllByRecursion (StandsInIf table.now) self.now.sequences.items }
+        ensures { result ≡ standing_hits (codes_of K.alphabet (R.elements reading.now)) self.now }
+    {
+        self.part_hits(table, reading, true) && self.part_hits(table, reading, false)
+    }
+
+    // The numbers of a fragment of a sequence, as `Sequence::numbers` gives them; none where there
+    // is no such sequence or fragment. Both are numbered from 1.
+    pub(crate) fn numbers(
+        &self,
+        table: &Table,
+        number: usize,
+        fragment: usize,
+        index: u8,
+    ) -> Option<(u32, u32, usize, u8)>
+        requires { AllByRecursion (StandsInIf table.now) self.now.sequences.items }
+        ensures { result ≡ numbers_in self.now.sequences.items number fragment index }
+    {
+        let place = number.checked_sub(1)?;
+        let sequence = self.sequences.as_slice().get(place)?.as_ref()?;
+        sequence.numbers(table, fragment, index)
     }
 }
 
@@ -191,10 +262,7 @@ pub(crate) fn enter<K: Kind>(
 }
 
 // Frees the slots of sequences.
-fn clear_all<K: Kind>(
-    sequences: ArrayVec<Option<InTable<K>>, MOST_SEQUENCES>,
-    table: &mut Table,
-)
+fn clear_all<K: Kind>(sequences: ArrayVec<Option<InTable<K>>, MOST_SEQUENCES>, table: &mut Table)
     ensures { table.new ≡ cleared table.old (flat_map slots_in sequences.items) }
 {
     for sequence in sequences {

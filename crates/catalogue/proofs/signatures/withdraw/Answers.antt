@@ -1,5 +1,4 @@
 use Rattle.std.proofs.Common.{map, sym, ap, ◌∙◌, subst, arith}
-use Rattle.std.specs.List.{remove}
 use Rattle.engine.specs.Tables.{cleared}
 use Rattle.catalogue.specs.Standing.{signature_pair, slots_of, SignaturesHold}
 use Rattle.catalogue.proofs.Sorted.{pairs_removed}

@@ -4,8 +4,9 @@ pub mod Held
 pub mod HeldSignatures
 pub mod Moving
 pub mod Refusing
+pub mod Reported
 pub mod Reporting
 pub mod Slots
 pub mod Sorted
 pub mod Withdrawn
-pub mod Reported
+pub mod Writing

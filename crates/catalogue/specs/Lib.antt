@@ -1,4 +1,5 @@
 pub mod Entering
+pub mod Hitting
 pub mod Reporting
 pub mod Standing
-pub mod Hitting
+pub mod Writing

@@ -2,8 +2,8 @@
 use Rattle.std.specs.Prelude.{ℕ, Bool, if◌then◌else◌, List, [], ◌∷◌, map}
 use Rattle.records.specs.Entries.{Signature}
 use Rattle.records.specs.Report.{Report}
+use Rattle.catalogue.specs.declared.hitting.Hitting.{Hitting}
 use Rattle.catalogue.specs.declared.report.Found.{Found}
-use Rattle.catalogue.specs.declared.report.Hitting.{Hitting}
 
 -- a signature as far as a report reads it
 abbrev pub bare : ℕ → Bool → Signature

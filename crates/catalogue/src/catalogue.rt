@@ -9,6 +9,7 @@ ghost use Rattle.records.specs.Lawful.{Lawful};
 use crate::formats::{self, MOST_FORMATS, StandingFormat};
 use crate::signatures::{self, MOST_SIGNATURES, StandingSignature};
 use crate::standing::{self, Standing};
+use crate::{hitting, report};
 use engine::Table;
 use faults::{Cause, Fault};
 use kinds::{Kind, Reading};
@@ -108,6 +109,79 @@ impl<K: Kind> Catalogue<K> {
         }
         formats::withdraw(&mut self.formats, place);
         Ok(id)
+    }
+
+    /// The numbers of a fragment, in elements: break, lead, length of the anchor, and the shift of an
+    /// index. Sequences and fragments are numbered from 1. What does not stand is refused with the
+    /// signature's id.
+    pub fn show(
+        &self,
+        signature: u16,
+        sequence: usize,
+        fragment: usize,
+        index: u8,
+    ) -> Result<(u32, u32, usize, u8), Fault>
+        ensures { result ≡ showing K.alphabet self.now signature sequence fragment index }
+    {
+        let missing = Fault::outside(Cause::Missing, usize::from(signature));
+        let place = standing::find(&self.signatures, signature).ok_or(missing)?;
+        self.signatures[place]
+            .numbers(&self.table, sequence, fragment, index)
+            .ok_or(missing)
+    }
+
+    /// The report on a reading under a label of any bytes: its status and how many hits it has. The
+    /// hits are written to the front of the list, by rising id, and the rest of it stays. Refused, it
+    /// leaves the list as it is: a reading of more than 16,777,216 elements, and a list that is
+    /// shorter than the report.
+    pub fn identify<R: Reading<Element = K> + Drop>(
+        &self,
+        reading: R,
+        label: &[u8],
+        hits: &mut [Hit],
+    ) -> Result<(Status, usize), Fault>
+        ensures answer { result ≡ identifying K.alphabet self.now (R.elements reading) label.now
+            (length hits.old) }
+        ensures listed { hits.new ≡ identified K.alphabet self.now (R.elements reading) label.now
+            hits.old }
+    {
+        self.identify_lent(&reading, label, hits)
+    }
+
+    // The same of a lent reading.
+    fn identify_lent<R: Reading<Element = K>>(
+        &self,
+        reading: &R,
+        label: &[u8],
+        hits: &mut [Hit],
+    ) -> Result<(Status, usize), Fault>
+        ensures answer { result ≡ identifying K.alphabet self.now (R.elements reading.now) label.now
+            (length hits.old) }
+        ensures listed { hits.new ≡ identified K.alphabet self.now (R.elements reading.now) label.now
+            hits.old }
+    {
+        if reading.len() > LONGEST_READING {
+            return Err(Fault::outside(Cause::LongReading, 0));
+        }
+        let hitting = hitting::hitting_signatures(&self.signatures, &self.table, reading);
+        let found = report::report(&hitting, &self.formats, label);
+        report::copy_hits(&found, hits)
+    }
+
+    /// Writes the records of all signatures, then of all formats, by rising id, to the front of a
+    /// buffer, and answers how many bytes they are. The rest of the buffer stays. A buffer that is
+    /// shorter is refused and stays as it is.
+    pub fn write(&self, buffer: &mut [u8]) -> Result<usize, Fault>
+        ensures answer { result ≡ writing K.alphabet self.now (length buffer.old) }
+        ensures written { buffer.new ≡ wrote K.alphabet self.now buffer.old }
+    {
+        let len = standing::written_len(&self.signatures) + standing::written_len(&self.formats);
+        if buffer.len() < len {
+            return Err(Fault::outside(Cause::ShortBuffer, len));
+        }
+        let behind = standing::write_records(&self.signatures, K::signature_record(), buffer, 0);
+        standing::write_records(&self.formats, K::format_record(), buffer, behind);
+        Ok(len)
     }
 
     /// Every catalogue is lawful: each body that stands can be entered again, what it names stands,

@@ -3,10 +3,11 @@
 
 mod catalogue;
 mod formats;
+mod hitting;
 mod report;
 mod signatures;
 mod standing;
 
-pub use catalogue::{Catalogue, LONGEST_READING, MOST_FORMATS, MOST_SIGNATURES};
-pub use faults::{Cause, Fault, FaultLine};
-pub use records::{Hit, HitStatus, Status};
+pub use catalogue::{Catalogue, LONGEST_READING};
+pub use formats::MOST_FORMATS;
+pub use signatures::MOST_SIGNATURES;

@@ -10,16 +10,10 @@ ghost use Rattle.catalogue.specs.Reporting.{flagged, found_in, hitting_in};
 ghost use Rattle.catalogue.specs.Standing.{formats_in};
 
 use crate::formats::{MOST_FORMATS, StandingFormat};
+use crate::hitting::Hitting;
 use arrayvec::ArrayVec;
 use faults::{Cause, Fault};
 use records::{Format, Hit, HitStatus, Status};
-
-/// A signature that hits.
-#[derive(Clone, Copy, Default)]
-pub(crate) struct Hitting {
-    pub(crate) id: u16,
-    pub(crate) specific: bool,
-}
 
 /// A report: its status, and the formats that it lists.
 #[derive(Drop)]

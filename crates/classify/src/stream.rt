@@ -14,7 +14,7 @@ fn print(rt: &impl Print, lines: &str) -> Result<(), Failure> {
 }
 
 // Answers the first record, with a new catalogue, and all that follow.
-fn answer_from<K: Lane, R: Read>(
+fn answer_from<K: Lane, R: Read + Drop>(
     rt: &impl Print,
     alloc: Global,
     first: &[u8],

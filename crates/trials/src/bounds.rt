@@ -1,10 +1,13 @@
 //! A catalogue at its bounds: filled, thinned and filled again.
-ghost use Rattle.std.specs.Prelude.{◌≡◌, replicate};
+ghost use Rattle.std.specs.Prelude.{◌≡◌, ◌≤◌, replicate};
+ghost use Rattle.trials.specs.Repeated.{FitsReading-replicate};
 
 use crate::records::{format, signature};
 use catalogue::{Catalogue, Cause, Fault, Hit, HitStatus, Status};
 use kinds::{Byte, Bytes, Kind, Reading};
 use std::alloc::Global;
+use std::ops::Range;
+use std::process::Abort;
 use std::test::Fail;
 
 // No hit, in a list that is lent to be filled.
@@ -21,9 +24,9 @@ fn full(place: usize) -> Result<u16, Fault> {
 
 // Enters signatures of one text, of the ids from one to before another.
 fn enter_signatures(
-    rt: &HostRuntime,
+    rt: &(impl AllocGlobal + Abort),
     catalogue: &mut Catalogue<Byte>,
-    ids: std::ops::Range<u16>,
+    ids: Range<u16>,
     text: &[u8],
 ) -> Result<(), Fail> {
     for id in ids {
@@ -158,12 +161,15 @@ fn writes_what_stands(rt: HostRuntime) -> Result<(), Fail> {
 struct Repeated {
     element: Byte,
     len: u32,
+    ghost few: { len ≤ 4294967295 },
 }
 
 impl Reading for Repeated {
     type Element = Byte;
 
     ghost elements = { λ r. replicate r.len r.element };
+
+    ghost fits = { λ r. FitsReading-replicate r.len r.element r.few };
 
     fn len(&self) -> u32 {
         self.len

@@ -2,6 +2,7 @@
 use crate::records::signature;
 use catalogue::{Catalogue, Cause, Fault};
 use kinds::Byte;
+use std::process::Abort;
 use std::test::Fail;
 
 // The published example of two fragments.
@@ -11,7 +12,7 @@ const TEXT: &[u8] = b"A1A2A3[A4:A5]??B1B2B3(B4|B5)*{5}01??C1C2C3{4-7}D1????F1(F2
 type Shown = (usize, u8, (u32, u32, usize, u8));
 
 // Asks for the numbers of the example's fragments, looked for ten elements from an end.
-fn shows(rt: HostRuntime, letter: u8, want: &[Shown]) -> Result<(), Fail> {
+fn shows(rt: &(impl AllocGlobal + Abort), letter: u8, want: &[Shown]) -> Result<(), Fail> {
     let alloc = rt.alloc();
     let mut catalogue = Catalogue::<Byte>::new(alloc)?;
     let record = signature(alloc, 9, letter, 10, TEXT)?;
@@ -32,7 +33,7 @@ fn shows(rt: HostRuntime, letter: u8, want: &[Shown]) -> Result<(), Fail> {
 #[test]
 fn shows_the_example_from_the_front(rt: HostRuntime) -> Result<(), Fail> {
     shows(
-        rt,
+        &rt,
         b'B',
         &[
             (1, 0xB1, (10, 5, 3, 3)),
@@ -50,7 +51,7 @@ fn shows_the_example_from_the_front(rt: HostRuntime) -> Result<(), Fail> {
 #[test]
 fn shows_the_example_from_the_back(rt: HostRuntime) -> Result<(), Fail> {
     shows(
-        rt,
+        &rt,
         b'E',
         &[
             (1, 0xC1, (10, 11, 3, 1)),

@@ -124,7 +124,9 @@ impl<K: Kind> Catalogue<K> {
         ensures { result ≡ showing K.alphabet self.now signature sequence fragment index }
     {
         let missing = Fault::outside(Cause::Missing, usize::from(signature));
-        let place = standing::find(&self.signatures, signature).ok_or(missing)?;
+        let Some(place) = standing::find(&self.signatures, signature) else {
+            return Err(missing);
+        };
         self.signatures[place]
             .numbers(&self.table, sequence, fragment, index)
             .ok_or(missing)

@@ -1,26 +1,34 @@
 -- The questions to a catalogue: what its fields answer is what its book says.
-use Rattle.std.proofs.Common.{◌≡◌, ◌==◌, ℕ, List, map, Some, None, Ok, Err, Option, Result, ok_or, sym, refl, ap, ◌∙◌, subst}
+use Rattle.std.proofs.Common.{◌≡◌, ◌==◌, ◌≤◌, ℕ, List, [], ◌∷◌, map, length, Some, None, Ok, Err, Option, Result, ok_or, sym, refl, ap, ◌∙◌, arith}
+use Rattle.std.proofs.lemmas.Bool.{le-ltb}
 use Rattle.std.proofs.lemmas.Option.{same_Some, slice_get-map}
+use Rattle.std.proofs.lemmas.Simd.{map-map}
 use Rattle.std.specs.FinMap as finite
-use Rattle.std.specs.List.{position, slice_get}
+use Rattle.std.specs.List.{position, filter, slice_get}
 use Rattle.std.specs.Option.{option_and_then, option_map}
 use Rattle.faults.specs.Faults.{outside}
-use Rattle.faults.specs.declared.fault.Cause.TheVariants.{Missing}
+use Rattle.faults.specs.declared.fault.Cause.TheVariants.{Missing, LongReading}
 use Rattle.faults.specs.declared.fault.Fault.{Fault}
 use Rattle.kinds.specs.Alphabet.{Alphabet}
 use Rattle.patterns.specs.Sequences.{shown}
 use Rattle.engine.specs.declared.fragment.Fragment.{Fragment}
 use Rattle.records.specs.Book.{signature_in, said_by}
-use Rattle.records.specs.Calls.{numbered, showing}
+use Rattle.records.specs.Calls.{numbered, showing, question_refused}
 use Rattle.records.specs.Entries.{Signature}
+use Rattle.records.specs.Refusals.{first_of, refused_if, hits_short}
+use Rattle.records.specs.Report.{Report, hitting, report, report_by}
 use Rattle.records.proofs.Books.{none_from, get_made}
 use Rattle.records.proofs.Members.{holds_at}
-use Rattle.catalogue.specs.Hitting.{numbers_in}
-use Rattle.catalogue.specs.Standing.{signature_pair, book_in, SignatureHeld, SignaturesHold}
+use Rattle.catalogue.specs.Hitting.{numbers_in, hitting_of, hitting_signature, standing_hits}
+use Rattle.catalogue.specs.Reporting.{bare, hitting_in}
+use Rattle.catalogue.specs.Standing.{signature_pair, format_pair, formats_in, book_in, SignatureHeld, SignaturesHold, Holds}
+use Rattle.catalogue.specs.declared.hitting.Hitting.{Hitting}
 use Rattle.catalogue.specs.declared.formats.StandingFormat.{StandingFormat}
 use Rattle.catalogue.specs.declared.signatures.StandingSignature.{StandingSignature}
-use Rattle.catalogue.proofs.Composing.{absent, found_entry}
-use Rattle.catalogue.proofs.Reported.{numbers_held}
+use Rattle.catalogue.proofs.Composing.{absent, found_entry, or_nothing}
+use Rattle.catalogue.proofs.Held.{len-bodies, formats_of-book_of}
+use Rattle.catalogue.proofs.Reported.{hitting_reported, numbers_held}
+use Rattle.catalogue.proofs.Reporting.{bared, reported}
 
 -- Showing.
 
@@ -60,3 +68,29 @@ module _ {E : Type 0} (a : Alphabet E) (number fragment index : ℕ) where
         ∙ ap (λ o. answered id (option_and_then (λ s. shown s fragment index) (option_and_then (said_by a) (option_and_then (λ (s : Signature). numbered s.sequences number) o)))) reads
         ∙ ap (λ o. answered id (option_and_then (λ s. shown s fragment index) o)) (sym (numbers_held a table e held number))
         ∙ or_missing id (numbers_in e.sequences.items number fragment index)
+
+-- Identifying.
+
+-- the counts of a catalogue
+pub few_signatures : {E K : Type 0} (a : Alphabet E) (signatures : List (StandingSignature K)) (formats : List StandingFormat) (table : List (Option Fragment))
+    → Holds a signatures formats table → length signatures ≤ 24
+few_signatures a signatures formats table holds = omega (arith, len-bodies signature_pair signatures holds.signatures_hold.rise, holds.lawful.few_signatures)
+
+pub few_formats : {E K : Type 0} (a : Alphabet E) (signatures : List (StandingSignature K)) (formats : List StandingFormat) (table : List (Option Fragment))
+    → Holds a signatures formats table → length formats ≤ 48
+few_formats a signatures formats table holds = omega (arith, len-bodies format_pair formats holds.formats_hold.rise, holds.lawful.few_formats)
+
+-- a question on a reading that is not too long is refused only where the list is too short
+pub question_allowed : (n room : ℕ) (r : Report) → n ≤ 16777216 → question_refused n room r ≡ hits_short room (length r.hits)
+question_allowed n room r short =
+    ap (λ b. first_of (refused_if b (outside LongReading 0) ∷ hits_short room (length r.hits) ∷ [])) (le-ltb 16777216 n short) ∙ or_nothing (hits_short room (length r.hits))
+
+-- what was found, of the signatures that hit and the formats that stand, is the report of their book
+pub report_found : {E K : Type 0} (a : Alphabet E) (signatures : List (StandingSignature K)) (formats : List StandingFormat) (table : List (Option Fragment)) (codes label : List ℕ) (hits : List Hitting)
+    → Holds a signatures formats table → hits ≡ map hitting_of (filter (standing_hits codes) signatures)
+    → report_by (hitting_in hits) (formats_in formats) label ≡ report a (book_in signatures formats) codes label
+report_found a signatures formats table codes label hits holds are =
+    let book = book_in signatures formats in
+    let same = are ∙ hitting_reported a signatures formats table codes holds.signatures_hold in
+    let bare_hits : hitting_in hits ≡ map bared (hitting a book codes) = ap hitting_in same ∙ map-map (λ (h : Hitting). bare h.id h.specific) hitting_signature (hitting a book codes) in
+    reported a book codes label hits formats bare_hits (sym (formats_of-book_of (map signature_pair signatures) formats holds.formats_hold))

@@ -119,7 +119,7 @@ module _ {E : Type 0} (a : Alphabet E) (signatures formats : List (ℕ × List �
 -- Withdrawing.
 
 -- a choice with nothing behind it
-or_nothing : {A : Type 0} (o : Option A) → option_or o None ≡ o
+pub or_nothing : {A : Type 0} (o : Option A) → option_or o None ≡ o
 or_nothing None = refl
 or_nothing (Some x) = refl
 

@@ -104,8 +104,8 @@ impl<K: Kind> Catalogue<K> {
         let Some(place) = standing::find(&self.formats, id) else {
             return Err(Fault::outside(Cause::Missing, usize::from(id)));
         };
-        if let Some(format) = formats::first_outranking(&self.formats, id) {
-            return Err(Fault::outside(Cause::Named, usize::from(format)));
+        if let Some(above) = formats::first_outranking(&self.formats, id) {
+            return Err(Fault::outside(Cause::Named, usize::from(above)));
         }
         formats::withdraw(&mut self.formats, place);
         Ok(id)

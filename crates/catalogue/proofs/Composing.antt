@@ -119,13 +119,13 @@ module _ {E : Type 0} (a : Alphabet E) (signatures formats : List (ℕ × List �
 -- Withdrawing.
 
 -- a choice with nothing behind it
-or_nothing : {A : Type 0} (o : Option A) → option_or o None ≡ o
+pub or_nothing : {A : Type 0} (o : Option A) → option_or o None ≡ o
 or_nothing None = refl
 or_nothing (Some x) = refl
 
 module _ {S : Type 0} (pair : S → ℕ × List ℕ) (xs : List S) (rise : Rise (map pair xs)) (id : ℕ) where
   -- an id without a place does not stand
-  absent : position (λ s. (pair s).0 == id) xs ≡ None → finite.contains_key (bodies (map pair xs)) id ≡ false
+  pub absent : position (λ s. (pair s).0 == id) xs ≡ None → finite.contains_key (bodies (map pair xs)) id ≡ false
   absent none = contains_bodies (map pair xs) id rise ∙ sym (found_position pair xs id) ∙ ap is_some none
 
   -- so its withdrawal is refused

@@ -16,7 +16,7 @@ use Rattle.records.proofs.Labels.{list_any-map}
 use Rattle.catalogue.specs.Reporting.{bare, flagged, hitting_in}
 use Rattle.catalogue.specs.Standing.{formats_in}
 use Rattle.catalogue.specs.declared.formats.StandingFormat.{StandingFormat}
-use Rattle.catalogue.specs.declared.report.Hitting.{Hitting}
+use Rattle.catalogue.specs.declared.hitting.Hitting.{Hitting}
 
 -- some flagged element passes a test
 pub any_flagged : {X Y : Type 0} (p : Y → Bool) (g : X → Y) (xs : List X) (flags : List Bool) → list_any (λ (x : X × Bool). x.1 && p (g x.0)) (zip xs flags) ≡ list_any p (flagged (map g xs) flags)

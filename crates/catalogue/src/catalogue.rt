@@ -104,8 +104,8 @@ impl<K: Kind> Catalogue<K> {
         let Some(place) = standing::find(&self.formats, id) else {
             return Err(Fault::outside(Cause::Missing, usize::from(id)));
         };
-        if let Some(format) = formats::first_outranking(&self.formats, id) {
-            return Err(Fault::outside(Cause::Named, usize::from(format)));
+        if let Some(above) = formats::first_outranking(&self.formats, id) {
+            return Err(Fault::outside(Cause::Named, usize::from(above)));
         }
         formats::withdraw(&mut self.formats, place);
         Ok(id)
@@ -124,7 +124,9 @@ impl<K: Kind> Catalogue<K> {
         ensures { result ≡ showing K.alphabet self.now signature sequence fragment index }
     {
         let missing = Fault::outside(Cause::Missing, usize::from(signature));
-        let place = standing::find(&self.signatures, signature).ok_or(missing)?;
+        let Some(place) = standing::find(&self.signatures, signature) else {
+            return Err(missing);
+        };
         self.signatures[place]
             .numbers(&self.table, sequence, fragment, index)
             .ok_or(missing)

@@ -10,6 +10,7 @@ use Rattle.std.specs.FinMap as map
 use Rattle.std.specs.FinMap.Entries.{put, find, where_key, below_all, is_sorted, by_order, is_sorted-put, find-where_key, is_sorted-where_key}
 use Rattle.std.specs.List.{filter_map, cons_option, insert, remove, sum_by, count_by, slice_get, AllByRecursion}
 use Rattle.std.specs.Ordering.{nat_cmp, is_lt, is_eq, eq_by_cmp}
+use Rattle.records.proofs.Members.{holds_at}
 
 -- both of two tests hold
 both : (x y : Bool) → T (x && y) ↔ (T x × T y)
@@ -160,12 +161,6 @@ module _ {X : Type 0} where
         | Equal ↦ λ o. (subst (λ q. P (q, v)) (ranked k e.0 Equal (sym o)) one, all.1)
         | Greater ↦ λ _. (all.0, all_put P k v es one all.1)
       ] refl
-
-  -- what holds of all entries holds of the one at a place
-  holds_at : (P : ℕ × X → Type 0) (es : List (ℕ × X)) (i : ℕ) (e : ℕ × X) → AllByRecursion P es → slice_get es i ≡ Some e → P e
-  holds_at P [] i e all is = cc
-  holds_at P (f ∷ es) zero e all is = let same : f ≡ e = cc in subst P same all.0
-  holds_at P (f ∷ es) (suc i) e all is = holds_at P es i e all.1 is
 
   -- an entry goes out from where it stands
   pub without_at : (k : ℕ) (v : X) (es : List (ℕ × X)) (i : ℕ) → T (is_sorted nat_cmp es) → slice_get es i ≡ Some (k, v)

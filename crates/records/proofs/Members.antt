@@ -3,7 +3,7 @@ use Rattle.std.proofs.Common.{◌≡◌, ℕ, zero, suc, Bool, true, false, cond
 use Rattle.std.proofs.lemmas.Bool.{false≢true}
 use Rattle.std.proofs.lemmas.Option.{none-some, same_Some}
 use Rattle.std.proofs.lemmas.Bool.Decides.{Decides-eqb, Decides-like, Decides-and, Decides-or}
-use Rattle.std.specs.List.{filter, filter_map, cons_option, find, list_any, list_all, AllByRecursion, Contains}
+use Rattle.std.specs.List.{filter, filter_map, cons_option, find, list_any, list_all, slice_get, AllByRecursion, Contains}
 
 -- nothing is in the empty list
 pub contains_nil : {X : Type 0} (x : X) → Contains [] x → ⊥
@@ -71,6 +71,12 @@ contains_filter_map {X} {Y} h (x ∷ xs) y =
 pub holds_of : {X : Type 0} (P : X → Type 0) (xs : List X) (x : X) → AllByRecursion P xs → Contains xs x → P x
 holds_of P [] x all here = absurd (contains_nil x here)
 holds_of P (y ∷ ys) x all here = ⊎_elim (λ is. subst P is all.0) (λ k. holds_of P ys x all.1 k) (contains_cases y ys x here)
+
+-- and of the one at a place
+pub holds_at : {X : Type 0} (P : X → Type 0) (xs : List X) (i : ℕ) (x : X) → AllByRecursion P xs → slice_get xs i ≡ Some x → P x
+holds_at P [] i x all is = cc
+holds_at P (y ∷ xs) zero x all is = let same : y ≡ x = cc in subst P same all.0
+holds_at P (y ∷ xs) (suc i) x all is = holds_at P xs i x all.1 is
 
 -- and what holds of each one holds of all
 pub holds_of_all : {X : Type 0} (P : X → Type 0) (xs : List X) → ((x : X) → Contains xs x → P x) → AllByRecursion P xs

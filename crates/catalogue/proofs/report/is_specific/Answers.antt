@@ -6,7 +6,7 @@ use Rattle.records.specs.Report.{among_ids, names}
 use Rattle.records.specs.Taken.{format_in}
 use Rattle.records.proofs.Labels.{list_any-map}
 use Rattle.catalogue.specs.Reporting.{bare}
-use Rattle.catalogue.specs.declared.report.Hitting.{Hitting}
+use Rattle.catalogue.specs.declared.hitting.Hitting.{Hitting}
 use Rattle.catalogue.proofs.report.is_specific.Goals as goal
 
 pub returns : goal.returns

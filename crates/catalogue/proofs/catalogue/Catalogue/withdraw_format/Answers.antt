@@ -42,7 +42,7 @@ named g c =
     let found : position (λ s. (format_pair s).0 == c.args.id) entries ≡ Some c.in-Some.place = sym (c.in-Some.ensures ∙ ap (position (λ s. (format_pair s).0 == c.args.id)) c.deref.ensures.value) in
     let smallest = smallest_standing (λ f. among_ids c.args.id f.outranked) (map signature_pair c.self.inside.signatures.items) c.self.inside.formats.items c.self.invariant.0.formats_hold in
     let first = c.in-Some-first_outranking.ensures ∙ ap (λ fs. option_map (λ (f : Format). f.id) (find (λ f. among_ids c.args.id f.outranked) (formats_in fs))) c.deref-2.ensures.value in
-    let fault : outside Named c.in-Some-first_outranking.format ≡ c.outside-in-Some-first_outranking.result = sym (c.outside-in-Some-first_outranking.ensures ∙ ap (outside Named) c.from-in-Some-first_outranking.ensures) in
+    let fault : outside Named c.in-Some-first_outranking.above ≡ c.outside-in-Some-first_outranking.result = sym (c.outside-in-Some-first_outranking.ensures ∙ ap (outside Named) c.from-in-Some-first_outranking.ensures) in
     kept_named format_pair entries c.self.invariant.0.formats_hold.rise c.args.id c.in-Some.place found (format_named book c.args.id)
     ∙ ap (option_map (outside Named)) (smallest ∙ sym first) ∙ ap (λ f. Some f) fault
 

@@ -5,6 +5,8 @@ use Rattle.patterns.specs.Grammar.{Placed}
 use Rattle.patterns.specs.Patterns.{Item, AtMost, mirrored}
 use Rattle.patterns.specs.Search.{reaches}
 use Rattle.patterns.specs.Spans.{Anchored, SmallParts, Spans}
+use Rattle.patterns.specs.declared.reference.Reference.{Reference}
+use Rattle.patterns.specs.declared.reference.Reference.TheVariants.{Front, Back, Anywhere}
 use Rattle.rows.specs.Rows.{member}
 use Rattle.rows.specs.declared.Row.{Row}
 use Rattle.engine.specs.declared.fragment.Fragment.{Fragment}
@@ -17,6 +19,12 @@ Reached items xs row = (j : ℕ) → member row j ≡ (nat_lt j 1024 && reaches 
 -- the items from one place to before another
 abbrev pub part_of : List Placed → ℕ → ℕ → List Item
 part_of qs from to = bodies (take (to - from) (drop from qs))
+
+-- where a placement may start, counted from where the search begins
+abbrev pub starts_of : Reference → Starts
+starts_of (Front least most) = record { from = least; until = Some most }
+starts_of (Back least most) = record { from = least; until = Some most }
+starts_of Anywhere = record { from = 0; until = None }
 
 -- a member of a row that leads from a place back to a start where a placement may start
 pub record Start (row : Row) (place : ℕ) (starts : Starts) : Type 0 where

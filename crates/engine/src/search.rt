@@ -59,16 +59,17 @@ pub(crate) fn found<F: Fragments, R: Reading>(
         result ≡ hits_in (said sequence.now)
         (codes_of R.Element.alphabet (R.elements reading.now)) }
 {
-    match sequence.reference {
-        Reference::Front { least, most } => {
-            last_end(sequence, fragments, reading, Starts::between(least, most)).is_some()
+    let starts = Starts::of(sequence.reference);
+    let end = match sequence.reference {
+        Reference::Front { .. } | Reference::Anywhere => {
+            last_end(sequence, fragments, reading, starts)
         }
-        Reference::Back { least, most } => {
+        Reference::Back { .. } => {
             let backward = Backward::new(Lent { reading });
-            last_end(sequence, fragments, &backward, Starts::between(least, most)).is_some()
+            last_end(sequence, fragments, &backward, starts)
         }
-        Reference::Anywhere => last_end(sequence, fragments, reading, Starts::ANYWHERE).is_some(),
-    }
+    };
+    end.is_some()
 }
 
 // The numbers of a fragment: break, lead, length of the anchor, and the shift of an index; none

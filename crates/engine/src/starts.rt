@@ -1,7 +1,8 @@
 //! Where a placement may start.
-ghost use Rattle.std.specs.Prelude.{◌≡◌, ◌+◌, ◌<◌, ◌↔◌, IsTrue, MatchOption, Some};
-ghost use Rattle.engine.specs.Finding.{last_place_of, Start};
+ghost use Rattle.std.specs.Prelude.{◌≡◌, ◌+◌, ◌<◌, ◌↔◌, IsTrue, MatchOption};
+ghost use Rattle.engine.specs.Finding.{last_place_of, starts_of, Start};
 
+use patterns::Reference;
 use rows::Row;
 
 // The places from one on and, where there is a bound, not past it.
@@ -12,20 +13,19 @@ pub(crate) struct Starts {
 }
 
 impl Starts {
-    // Any place.
-    pub(crate) const ANYWHERE: Starts = Starts {
-        from: 0,
-        until: None,
-    };
-
-    // The places from one to another, both included.
-    pub(crate) fn between(least: u16, most: u16) -> Starts
-        ensures from { result.from ≡ least }
-        ensures until { result.until ≡ Some most }
+    // Where a placement may start, counted from where the search begins.
+    pub(crate) fn of(reference: Reference) -> Starts
+        ensures { result ≡ starts_of reference }
     {
-        Starts {
-            from: u64::from(least),
-            until: Some(u64::from(most)),
+        match reference {
+            Reference::Front { least, most } | Reference::Back { least, most } => Starts {
+                from: u64::from(least),
+                until: Some(u64::from(most)),
+            },
+            Reference::Anywhere => Starts {
+                from: 0,
+                until: None,
+            },
         }
     }
 

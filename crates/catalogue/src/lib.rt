@@ -9,5 +9,7 @@ mod signatures;
 mod standing;
 
 pub use catalogue::{Catalogue, LONGEST_READING};
+pub use faults::{Cause, Fault, FaultLine};
 pub use formats::MOST_FORMATS;
+pub use records::{Hit, HitStatus, Status};
 pub use signatures::MOST_SIGNATURES;

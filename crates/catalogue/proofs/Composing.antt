@@ -22,8 +22,7 @@ use Rattle.records.proofs.Books.{none_from, place_counted, insert_made, contains
 use Rattle.records.proofs.Keeping.{neither, not_refused, books_stay_lawful}
 use Rattle.catalogue.specs.Entering.{inserted, with_entry}
 use Rattle.catalogue.specs.Standing.{format_pair, formats_in, bodies, book_of, book_in, Rise, SignaturesHold, FormatsHold, Holds}
-use Rattle.catalogue.proofs.Held.{formats_of-book_of}
-use Rattle.catalogue.proofs.Sorted.{contains_bodies, found_position}
+use Rattle.catalogue.proofs.Held.{stands_where_found, formats_of-book_of}
 use Rattle.catalogue.specs.declared.formats.StandingFormat.{StandingFormat}
 use Rattle.catalogue.specs.declared.signatures.StandingSignature.{StandingSignature}
 
@@ -38,14 +37,14 @@ pub book_nil : book_of [] [] ≡ empty
 book_nil = λ i. record { signatures = bodies_nil i; formats = bodies_nil i }
 
 -- all slots of a table of free slots are free
-all_free : (n k : ℕ) → length (free_from {X = Fragment} n (replicate k None)) ≡ k
-all_free n zero = refl
-all_free n (suc k) = ap suc (all_free (suc n) k)
+free_count : (n k : ℕ) → length (free_from {X = Fragment} n (replicate k None)) ≡ k
+free_count n zero = refl
+free_count n (suc k) = ap suc (free_count (suc n) k)
 
 -- what an empty catalogue holds
 pub nothing_holds : {E K : Type 0} (a : Alphabet E) → Holds {K = K} a [] [] (replicate 96 None)
 nothing_holds a = record {
-  signatures_hold = record { rise = tt; held = tt; accounted = record { distinct = tt; counted = omega (arith, all_free 0 96) } };
+  signatures_hold = record { rise = tt; held = tt; accounted = record { distinct = tt; counted = omega (arith, free_count 0 96) } };
   formats_hold = record { rise = tt; held = tt };
   lawful = subst (Lawful a) (sym book_nil) ((books_stay_lawful a).none);
 }
@@ -126,7 +125,7 @@ or_nothing (Some x) = refl
 module _ {S : Type 0} (pair : S → ℕ × List ℕ) (xs : List S) (rise : Rise (map pair xs)) (id : ℕ) where
   -- an id without a place does not stand
   pub absent : position (λ s. (pair s).0 == id) xs ≡ None → finite.contains_key (bodies (map pair xs)) id ≡ false
-  absent none = contains_bodies (map pair xs) id rise ∙ sym (found_position pair xs id) ∙ ap is_some none
+  absent none = stands_where_found pair xs id rise ∙ ap is_some none
 
   -- so its withdrawal is refused
   pub kept_missing : (named : Option Fault) → position (λ s. (pair s).0 == id) xs ≡ None

@@ -8,11 +8,7 @@ use Rattle.kinds.specs.Alphabet.{Alphabet, within}
 use Rattle.records.specs.Book.{signature_in, format_in}
 use Rattle.records.specs.Entries.{Signature, Format, Entry, signature, format, printable}
 use Rattle.records.specs.Reading.{Rest, Read, ◌>>=◌, allowed, bytes_at, byte_at, word_at, text_at, id_allowed, ids_from, ids_at, labels_at, format_at, ended, kind_at, signature_of, format_of, entry_of, entry_at}
-
--- a step that ends well: the first part did, and then the second
-after_first : {A B : Type 0} (r : Result A ℕ) (then : A → Result B ℕ) (y : B) → (r >>= then) ≡ Ok y → (x : A) × (r ≡ Ok x) × (then x ≡ Ok y)
-after_first (Ok x) then y e = (x, refl, e)
-after_first (Err place) then y e = cc
+use Rattle.records.proofs.Readers.{bind_ok}
 
 -- a choice that ends well passed its test
 pub passed : {A : Type 0} (b : Bool) (x : A) (place : ℕ) (y : A) → ◌≡◌ {A = Result A ℕ} (cond b (Ok x) (Err place)) (Ok y) → (b ≡ true) × (y ≡ x)
@@ -39,9 +35,9 @@ ids_below : (bound : ℕ) (before : Option ℕ) (n : ℕ) (r : Rest) (ids : List
 unfolding ids_from
 ids_below bound before zero r ids e = let is : ids ≡ ([], r) = cc in subst (λ x. AllByRecursion (λ id. id < bound) x.0) (sym is) tt
 ids_below bound before (suc n) r ids e =
-    let one = after_first (allowed (id_allowed bound before) r (word_at r)) _ ids e in
+    let one = bind_ok (allowed (id_allowed bound before) r (word_at r)) _ ids e in
     let first = allowed_passes (id_allowed bound before) r (word_at r) one.0 one.1 in
-    let more = after_first (ids_from bound (Some one.0.0) n one.0.1) _ ids one.2 in
+    let more = bind_ok (ids_from bound (Some one.0.0) n one.0.1) _ ids one.2 in
     let is : ids ≡ (one.0.0 ∷ more.0.0, more.0.1) = cc in
     let below = ltb-true one.0.0 bound (and_parts _ _ first.1).1 in
     subst (λ x. AllByRecursion (λ id. id < bound) x.0) (sym is) (below, ids_below bound (Some one.0.0) n one.0.1 more.0 more.1)
@@ -50,7 +46,7 @@ ids_below bound before (suc n) r ids e =
 ids_at_below : (bound : ℕ) (r : Rest) (ids : List ℕ × Rest) → ids_at bound r ≡ Ok ids → AllByRecursion (λ id. id < bound) ids.0
 unfolding ids_at
 ids_at_below bound r ids e =
-    let count = after_first (allowed (within 0 8) r (byte_at r)) _ ids e in
+    let count = bind_ok (allowed (within 0 8) r (byte_at r)) _ ids e in
     ids_below bound None count.0.0 count.0.1 ids count.2
 
 -- a format outranks only lower ids
@@ -61,11 +57,11 @@ Ranked f = AllByRecursion (λ id. id < f.id) f.outranked
 format_ranked : (r : Rest) (f : Format × Rest) → format_at r ≡ Ok f → Ranked f.0
 unfolding format_at
 format_ranked r f e =
-    let id = after_first (word_at r) _ f e in
-    let name = after_first (text_at (within 0 40) printable id.0.1) _ f id.2 in
-    let signatures = after_first (ids_at 65536 name.0.1) _ f name.2 in
-    let outranked = after_first (ids_at id.0.0 signatures.0.1) _ f signatures.2 in
-    let labels = after_first (labels_at outranked.0.1) _ f outranked.2 in
+    let id = bind_ok (word_at r) _ f e in
+    let name = bind_ok (text_at (within 0 40) printable id.0.1) _ f id.2 in
+    let signatures = bind_ok (ids_at 65536 name.0.1) _ f name.2 in
+    let outranked = bind_ok (ids_at id.0.0 signatures.0.1) _ f signatures.2 in
+    let labels = bind_ok (labels_at outranked.0.1) _ f outranked.2 in
     let made : Format = record { id = id.0.0; name = name.0.0; signatures = signatures.0.0; outranked = outranked.0.0; labels = labels.0.0 } in
     let is : f ≡ (made, labels.0.1) = cc in
     subst (λ x. Ranked x.0) (sym is) (ids_at_below id.0.0 signatures.0.1 outranked.0 outranked.1)
@@ -89,7 +85,7 @@ bytes_taken n r x e = elim (ltb (length r.bytes) n) as (λ (b : Bool). ◌≡◌
 word_taken : (r : Rest) (x : ℕ × Rest) → word_at r ≡ Ok x → x.1 ≡ record { place = r.place + 2; bytes = drop 2 r.bytes }
 unfolding word_at
 word_taken r x e =
-    let field = after_first (bytes_at 2 r) _ x e in
+    let field = bind_ok (bytes_at 2 r) _ x e in
     let same : x.1 ≡ field.0.1 = cc in
     same ∙ bytes_taken 2 r field.0 field.1
 
@@ -98,7 +94,7 @@ pub kind_taken : (kinds : ℕ → Bool) (bytes : List ℕ) (x : ℕ × Rest) →
 unfolding kind_at
 kind_taken kinds bytes x e =
     let whole : Rest = record { place = 0; bytes = bytes } in
-    let len = after_first (allowed _ whole (word_at whole)) _ x e in
+    let len = bind_ok (allowed _ whole (word_at whole)) _ x e in
     let head = word_taken whole len.0 (allowed_passes _ whole (word_at whole) len.0 len.1).0 in
     let kind = word_taken len.0.1 x (allowed_passes kinds len.0.1 (word_at len.0.1) x len.2).0 in
     let behind : Rest → Rest = λ r. record { place = r.place + 2; bytes = drop 2 r.bytes } in
@@ -107,16 +103,16 @@ kind_taken kinds bytes x e =
 -- the signature of an entry that is read is that of its body
 entry_signature : (b : Bool) (r : Rest) (s : Signature) → entry_of b r ≡ Ok (signature s) → signature_of r ≡ Ok s
 entry_signature true r s e =
-    let one = after_first (signature_of r) _ (signature s) e in
+    let one = bind_ok (signature_of r) _ (signature s) e in
     let same : one.0 ≡ s = cc in
     one.1 ∙ ap (λ z. Ok z) same
-entry_signature false r s e = let one = after_first (format_of r) _ (signature s) e in cc
+entry_signature false r s e = let one = bind_ok (format_of r) _ (signature s) e in cc
 
 -- and the format
 entry_format : (b : Bool) (r : Rest) (f : Format) → entry_of b r ≡ Ok (format f) → format_of r ≡ Ok f
-entry_format true r f e = let one = after_first (signature_of r) _ (format f) e in cc
+entry_format true r f e = let one = bind_ok (signature_of r) _ (format f) e in cc
 entry_format false r f e =
-    let one = after_first (format_of r) _ (format f) e in
+    let one = bind_ok (format_of r) _ (format f) e in
     let same : one.0 ≡ f = cc in
     one.1 ∙ ap (λ z. Ok z) same
 
@@ -125,7 +121,7 @@ module _ {E : Type 0} (a : Alphabet E) (bytes : List ℕ) where
   entry_body : (e : Entry) → entry_at a bytes ≡ Ok e → (b : Bool) × (entry_of b (record { place = 4; bytes = drop 4 bytes }) ≡ Ok e)
   unfolding entry_at
   entry_body e is =
-      let kind = after_first (kind_at (λ k. eqb k a.signature_record || eqb k a.format_record) bytes) _ e is in
+      let kind = bind_ok (kind_at (λ k. eqb k a.signature_record || eqb k a.format_record) bytes) _ e is in
       let behind = kind_taken _ bytes kind.0 kind.1 in
       (eqb kind.0.0 a.signature_record, subst (λ r. entry_of (eqb kind.0.0 a.signature_record) r ≡ Ok e) behind kind.2)
 

@@ -35,11 +35,12 @@ count_by-map p f (x ∷ xs) =
     sum_by-cons (λ y. cond (p y) 1 0) (f x) (map f xs) ∙ ap (λ n. cond (p (f x)) 1 0 + n) (count_by-map p f xs) ∙ sym (sum_by-cons (λ z. cond (p (f z)) 1 0) x xs)
 
 -- the pairs of entries with one more at its place
-pub inserted_pairs : {S : Type 0} (pair : S → ℕ × List ℕ) (xs : List S) (x : S)
-    → map pair (insert xs (count_by (λ s. ltb (pair s).0 (pair x).0) xs) x) ≡ inserted (map pair xs) (pair x).0 (pair x).1
-inserted_pairs pair xs x =
-    map_insert pair xs (count_by (λ s. ltb (pair s).0 (pair x).0) xs) x
-    ∙ ap (λ n. insert (map pair xs) n (pair x)) (sym (count_by-map (λ (e : ℕ × List ℕ). ltb e.0 (pair x).0) pair xs))
+pub inserted_pairs : {S : Type 0} (pair : S → ℕ × List ℕ) (xs : List S) (x : S) (id : ℕ) (body : List ℕ) → pair x ≡ (id, body)
+    → map pair (insert xs (count_by (λ s. ltb (pair s).0 id) xs) x) ≡ inserted (map pair xs) id body
+inserted_pairs pair xs x id body is =
+    let n = count_by (λ s. ltb (pair s).0 id) xs in
+    map_insert pair xs n x ∙ ap (λ e. insert (map pair xs) n e) is
+    ∙ ap (λ m. insert (map pair xs) m (id, body)) (sym (count_by-map (λ (e : ℕ × List ℕ). ltb e.0 id) pair xs))
 
 -- ids still rise with a new one at its place
 pub rise_inserted : (pairs : List (ℕ × List ℕ)) (id : ℕ) (body : List ℕ) → Rise pairs → map.contains_key (bodies pairs) id ≡ false → Rise (inserted pairs id body)
@@ -60,7 +61,7 @@ pub formats_entered : (pairs : List (ℕ × List ℕ)) (formats : List StandingF
 formats_entered pairs formats e holds held none =
     let new = (accepted (book_of pairs (map format_pair formats)) (format_in e.format) none).0 in
     record {
-      rise = subst Rise (sym (inserted_pairs format_pair formats e)) (rise_inserted (map format_pair formats) e.format.id e.body.items holds.rise new);
+      rise = subst Rise (sym (inserted_pairs format_pair formats e e.format.id e.body.items refl)) (rise_inserted (map format_pair formats) e.format.id e.body.items holds.rise new);
       held = all_insert FormatHeld formats _ e holds.held held;
     }
 

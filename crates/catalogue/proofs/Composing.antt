@@ -1,6 +1,6 @@
 -- The calls of a catalogue: what its fields hold, and what its book is, before and after them.
-use Rattle.std.proofs.Common.{◌≡◌, ◌==◌, ℕ, zero, suc, ◌<◌, Bool, true, false, not, List, [], ◌∷◌, map, length, get_or, drop, replicate, Some, None, Ok, Err, Option, Result, is_some, sym, refl, ap, ◌∙◌, subst, arith}
-use Rattle.std.proofs.lemmas.Bool.{eqb-true}
+use Rattle.std.proofs.Common.{◌≡◌, ◌==◌, ◌&&◌, ◌↔◌, IsTrue, ℕ, zero, suc, ◌<◌, Bool, true, false, not, List, [], ◌∷◌, map, length, get_or, drop, replicate, Some, None, Ok, Err, Option, Result, is_some, sym, refl, ap, ◌∙◌, subst, arith}
+use Rattle.std.proofs.lemmas.Bool.{false≢true, eqb-true}
 use Rattle.std.proofs.lemmas.List.Quantifiers.{position-Some}
 use Rattle.std.proofs.lemmas.Option.{slice_get-map, slice_get-get_or}
 use Rattle.std.specs.FinMap as finite
@@ -21,9 +21,8 @@ use Rattle.records.specs.Refusals.{first_of, refused_if, entry_refused, format_r
 use Rattle.records.proofs.Books.{none_from, place_counted, insert_made, contains_made, remove_made, len_made}
 use Rattle.records.proofs.Keeping.{neither, not_refused, books_stay_lawful}
 use Rattle.catalogue.specs.Entering.{inserted, with_entry}
-use Rattle.catalogue.specs.Standing.{format_pair, formats_in, bodies, book_of, book_in, Rise, SignaturesHold, FormatsHold, Holds}
-use Rattle.catalogue.proofs.Held.{formats_of-book_of}
-use Rattle.catalogue.proofs.Sorted.{contains_bodies, found_position}
+use Rattle.catalogue.specs.Standing.{signature_pair, format_pair, formats_in, bodies, book_of, book_in, Rise, SignaturesHold, FormatsHold, Holds}
+use Rattle.catalogue.proofs.Held.{len-bodies, stands_where_found, formats_of-book_of}
 use Rattle.catalogue.specs.declared.formats.StandingFormat.{StandingFormat}
 use Rattle.catalogue.specs.declared.signatures.StandingSignature.{StandingSignature}
 
@@ -38,17 +37,30 @@ pub book_nil : book_of [] [] ≡ empty
 book_nil = λ i. record { signatures = bodies_nil i; formats = bodies_nil i }
 
 -- all slots of a table of free slots are free
-all_free : (n k : ℕ) → length (free_from {X = Fragment} n (replicate k None)) ≡ k
-all_free n zero = refl
-all_free n (suc k) = ap suc (all_free (suc n) k)
+free_count : (n k : ℕ) → length (free_from {X = Fragment} n (replicate k None)) ≡ k
+free_count n zero = refl
+free_count n (suc k) = ap suc (free_count (suc n) k)
 
 -- what an empty catalogue holds
 pub nothing_holds : {E K : Type 0} (a : Alphabet E) → Holds {K = K} a [] [] (replicate 96 None)
 nothing_holds a = record {
-  signatures_hold = record { rise = tt; held = tt; accounted = record { distinct = tt; counted = omega (arith, all_free 0 96) } };
+  signatures_hold = record { rise = tt; held = tt; accounted = record { distinct = tt; counted = omega (arith, free_count 0 96) } };
   formats_hold = record { rise = tt; held = tt };
   lawful = subst (Lawful a) (sym book_nil) ((books_stay_lawful a).none);
 }
+
+-- the book is empty exactly where nothing stands
+pub empty_decided : {K : Type 0} (signatures : List (StandingSignature K)) (formats : List StandingFormat) → Rise (map signature_pair signatures) → Rise (map format_pair formats)
+    → (b : Bool) → b ≡ ((length signatures == 0) && (length formats == 0)) → IsTrue b ↔ (book_in signatures formats ≡ empty)
+empty_decided [] [] signatures_rise formats_rise b is = (λ _. book_nil, λ _. is)
+empty_decided [] (f ∷ fs) signatures_rise formats_rise b is = (
+  λ t. absurd (false≢true (sym is ∙ t)),
+  λ e. absurd (omega (arith, len-bodies format_pair (f ∷ fs) formats_rise, ap (λ (x : Book). finite.len x.formats) e, finite.len-empty nat_cmp (List ℕ))),
+)
+empty_decided (s ∷ ss) formats signatures_rise formats_rise b is = (
+  λ t. absurd (false≢true (sym is ∙ t)),
+  λ e. absurd (omega (arith, len-bodies signature_pair (s ∷ ss) signatures_rise, ap (λ (x : Book). finite.len x.signatures) e, finite.len-empty nat_cmp (List ℕ))),
+)
 
 -- Entering.
 
@@ -126,7 +138,7 @@ or_nothing (Some x) = refl
 module _ {S : Type 0} (pair : S → ℕ × List ℕ) (xs : List S) (rise : Rise (map pair xs)) (id : ℕ) where
   -- an id without a place does not stand
   pub absent : position (λ s. (pair s).0 == id) xs ≡ None → finite.contains_key (bodies (map pair xs)) id ≡ false
-  absent none = contains_bodies (map pair xs) id rise ∙ sym (found_position pair xs id) ∙ ap is_some none
+  absent none = stands_where_found pair xs id rise ∙ ap is_some none
 
   -- so its withdrawal is refused
   pub kept_missing : (named : Option Fault) → position (λ s. (pair s).0 == id) xs ≡ None

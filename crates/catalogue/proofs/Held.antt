@@ -1,10 +1,11 @@
 -- What standing entries say of their book.
-use Rattle.std.proofs.Common.{◌≡◌, ℕ, ◌<◌, Bool, true, false, cond, ◌||◌, ◌==◌, List, [], ◌∷◌, map, length, Some, None, Option, is_some, nat_le, sym, refl, ap, ◌∙◌, arith}
+use Rattle.std.proofs.Common.{◌≡◌, ℕ, suc, ◌+◌, ◌<◌, ◌≤◌, Bool, true, false, cond, not, ltb, ◌||◌, ◌==◌, ⊎_elim, List, [], ◌∷◌, map, length, Some, None, Option, is_some, nat_le, sym, refl, ap, ◌∙◌, arith}
+use Rattle.std.proofs.lemmas.Bool.{cases_lt, lt-ltb, le-ltb}
 use Rattle.std.proofs.lemmas.Bool.Decides.{nat_tests}
 use Rattle.std.proofs.lemmas.List.{length-map}
 use Rattle.std.specs.FinMap as map
 use Rattle.std.specs.FinMap.{find as find_key}
-use Rattle.std.specs.List.{find, filter_map, cons_option, list_any, AllByRecursion}
+use Rattle.std.specs.List.{find, position, position_or_len, filter_map, cons_option, list_any, AllByRecursion}
 use Rattle.std.specs.Option.{option_map, option_or, MatchOption, IsSomeAnd}
 use Rattle.std.specs.Ordering.{nat_cmp, eq_by_cmp}
 use Rattle.faults.specs.Faults.{outside}
@@ -38,6 +39,30 @@ pub contains_key-bodies : {S : Type 0} (pair : S → ℕ × List ℕ) (xs : List
     → map.contains_key (bodies (map pair xs)) id ≡ list_any (λ s. (pair s).0 == id) xs
 contains_key-bodies pair xs id rise =
     ap is_some (map.get-from_sorted nat_cmp (map pair xs) id rise) ∙ is_some-find_key (map pair xs) id ∙ list_any-map (λ (e : ℕ × List ℕ). e.0 == id) pair xs
+
+-- a position is found in a list at its first element or behind it
+position_first : {X : Type 0} (p : X → Bool) (x : X) (xs : List X) → is_some (position p (x ∷ xs)) ≡ (p x || is_some (position p xs))
+position_first p x xs =
+    let k = position_or_len p xs in
+    elim (p x) as (λ b. is_some (cond (ltb (cond (not b) (1 + k) 0) (suc (length xs))) (Some (cond (not b) (1 + k) 0)) None) ≡ (b || is_some (position p xs))) [
+      | true ↦ let above : 0 < suc (length xs) = omega arith in rw (lt-ltb 0 (suc (length xs)) above) refl
+      | false ↦ ⊎_elim
+          (λ h.
+          let above : 1 + k < suc (length xs) = omega arith in
+          rw (lt-ltb (1 + k) (suc (length xs)) above, lt-ltb k (length xs) h) refl)
+          (λ h. let above : suc (length xs) ≤ 1 + k = omega arith in rw (le-ltb (1 + k) (suc (length xs)) above, le-ltb k (length xs) h) refl)
+          (cases_lt k (length xs))
+    ]
+
+-- a position is found where some element passes
+is_some-position : {X : Type 0} (p : X → Bool) (xs : List X) → is_some (position p xs) ≡ list_any p xs
+is_some-position p [] = refl
+is_some-position p (x ∷ xs) = position_first p x xs ∙ ap (λ b. p x || b) (is_some-position p xs)
+
+-- so an id stands where its place is found
+pub stands_where_found : {S : Type 0} (pair : S → ℕ × List ℕ) (xs : List S) (id : ℕ) → Rise (map pair xs)
+    → map.contains_key (bodies (map pair xs)) id ≡ is_some (position (λ s. (pair s).0 == id) xs)
+stands_where_found pair xs id rise = contains_key-bodies pair xs id rise ∙ sym (is_some-position (λ s. (pair s).0 == id) xs)
 
 -- the first image that passes a test is that of the first element whose image does
 find-map : {X Y : Type 0} (p : Y → Bool) (f : X → Y) (xs : List X) → find p (map f xs) ≡ option_map f (find (λ x. p (f x)) xs)

@@ -8,6 +8,5 @@ pub mod Refusing
 pub mod Reported
 pub mod Reporting
 pub mod Slots
-pub mod Sorted
 pub mod Withdrawn
 pub mod Writing

@@ -20,32 +20,23 @@ use Rattle.records.specs.Refusals.{refused_from, refused_if, first_of, signature
 use Rattle.catalogue.specs.Entering.{fragment_total, signature_refused, signatures_in, Compiles}
 use Rattle.catalogue.specs.Standing.{signature_pair, bodies, SignaturesHold}
 use Rattle.catalogue.specs.declared.signatures.StandingSignature.{StandingSignature}
+use Rattle.records.proofs.Keeping.{neither, not_refused}
+use Rattle.catalogue.proofs.Held.{len-bodies, stands_where_found}
 use Rattle.catalogue.proofs.HeldSignatures.{fragments_counted}
 use Rattle.catalogue.proofs.Slots.{fragments_said}
-use Rattle.catalogue.proofs.Sorted.{contains_bodies, found_position, len_bodies}
 
 -- the place of an id among those of signatures
 abbrev pub place : {K : Type 0} → List (StandingSignature K) → ℕ → Option ℕ
 place es id = position (λ e. eqb (signature_pair e).0 id) es
 
--- where no cause holds, the first does not, and none of the others does
-none_holds : (f : Option Fault) (fs : Option Fault) → option_or f fs ≡ None → (f ≡ None) × (fs ≡ None)
-none_holds None fs e = (refl, e)
-none_holds (Some f) fs e = absurd (cc)
-
--- a cause that does not hold: its test fails
-test_fails : (b : Bool) (f : Fault) → refused_if b f ≡ None → b ≡ false
-test_fails true f e = absurd (cc)
-test_fails false f e = refl
-
 module _ {E K : Type 0} (a : Alphabet E) (es : List (StandingSignature K)) (table : List (Option Fragment)) (holds : SignaturesHold a es table) (s : Signature) where
   -- the id stands where its place is found
   stands_at : (b : Bool) → is_some (place es s.id) ≡ b → finmap.contains_key (bodies (map signature_pair es)) s.id ≡ b
-  stands_at b e = contains_bodies (map signature_pair es) s.id holds.rise ∙ sym (found_position signature_pair es s.id) ∙ e
+  stands_at b e = stands_where_found signature_pair es s.id holds.rise ∙ e
 
   -- so many stand
   stand : finmap.len (bodies (map signature_pair es)) ≡ length es
-  stand = len_bodies (map signature_pair es) holds.rise ∙ length-map es signature_pair
+  stand = len-bodies signature_pair es holds.rise
 
   -- its id is taken
   pub taken : is_some (place es s.id) ≡ true → signature_refused a es s ≡ Some (outside Taken s.id)
@@ -79,14 +70,14 @@ module _ {E K : Type 0} (a : Alphabet E) (es : List (StandingSignature K)) (tabl
         rw (stands_at false e, compiled.accepted, stand, lt-leb 24 (length es) few, le-ltb 96 (fragments_standing a (signatures_in es) + fragments_of a s) fits) refl
 
   -- where it is not refused its id is new, and there is room
-  pub fresh : signature_refused a es s ≡ None → (is_some (find nat_cmp s.id (map signature_pair es)) ≡ false) × (length es < 24)
+  pub fresh : signature_refused a es s ≡ None → (finmap.contains_key (bodies (map signature_pair es)) s.id ≡ false) × (length es < 24)
   fresh e =
       let book = signatures_in es in
-      let first = none_holds (signature_taken book s) (first_of (text_refused a s ∷ signatures_full book ∷ fragments_full a book s ∷ [])) e in
-      let second = none_holds (text_refused a s) (first_of (signatures_full book ∷ fragments_full a book s ∷ [])) first.1 in
-      let third = none_holds (signatures_full book) (first_of (fragments_full a book s ∷ [])) second.1 in
-      let absent = test_fails (finmap.contains_key book.signatures s.id) (outside Taken s.id) first.0 in
-      let room = test_fails (leb 24 (finmap.len book.signatures)) (outside Full 1) third.0 in (
-        sym (contains_bodies (map signature_pair es) s.id holds.rise) ∙ absent,
+      let first = neither (signature_taken book s) (first_of (text_refused a s ∷ signatures_full book ∷ fragments_full a book s ∷ [])) e in
+      let second = neither (text_refused a s) (first_of (signatures_full book ∷ fragments_full a book s ∷ [])) first.1 in
+      let third = neither (signatures_full book) (first_of (fragments_full a book s ∷ [])) second.1 in
+      let absent = not_refused (finmap.contains_key book.signatures s.id) (outside Taken s.id) first.0 in
+      let room = not_refused (leb 24 (finmap.len book.signatures)) (outside Full 1) third.0 in (
+        absent,
         omega (arith, leb-false 24 (finmap.len book.signatures) room, stand),
       )

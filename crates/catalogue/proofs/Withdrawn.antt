@@ -13,9 +13,9 @@ use Rattle.engine.specs.declared.fragment.Fragment.{Fragment}
 use Rattle.engine.proofs.Tables.{stands_on, front_distinct}
 use Rattle.catalogue.specs.Standing.{signature_pair, slots_in, slots_of, used, Accounted, StandsInIf, SignatureHeld, SignaturesHold}
 use Rattle.catalogue.specs.declared.signatures.StandingSignature.{StandingSignature}
+use Rattle.catalogue.proofs.Changes.{rise_removed}
 use Rattle.catalogue.proofs.HeldSignatures.{held_in, used_filled}
 use Rattle.catalogue.proofs.Slots.{all_append, all_front, all_back, distinct_append, back_distinct, parts_apart}
-use Rattle.catalogue.proofs.Sorted.{removed_sorted, pairs_removed}
 
 -- slots are freed in two steps
 pub cleared_append : {X : Type 0} (t : List (Option X)) (some others : List ℕ) → cleared t (some ++ others) ≡ cleared (cleared t some) others
@@ -86,7 +86,7 @@ module _ {E K : Type 0} (a : Alphabet E) where
       let parts : es ≡ front ++ (e ∷ back) = sym (take-append-drop n es) ∙ ap (λ l. front ++ l) (drop-cons es n e inside ∙ ap (λ x. x ∷ back) (sym is)) in
       let (held, accounted) = split_holds front back e t (subst (λ l. SignaturesHold a l t) parts old) in
       record {
-        rise = subst (λ l. T (is_sorted nat_cmp l)) (sym (pairs_removed signature_pair es n)) (removed_sorted (map signature_pair es) n old.rise);
+        rise = rise_removed signature_pair es n e inside old.rise;
         held = held;
         accounted = accounted;
       }

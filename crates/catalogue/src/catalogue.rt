@@ -1,5 +1,5 @@
 //! The catalogue and the calls on it.
-ghost use Rattle.std.specs.Prelude.{◌≡◌, IfOk, length};
+ghost use Rattle.std.specs.Prelude.{◌≡◌, ◌↔◌, length, IfOk, IsTrue};
 ghost use Rattle.records.specs.Book.{empty};
 ghost use Rattle.records.specs.Calls.{entered, entering, identified, identifying, showing};
 ghost use Rattle.records.specs.Calls.{withdrawing_format, withdrawing_signature};
@@ -186,9 +186,12 @@ impl<K: Kind> Catalogue<K> {
         Ok(len)
     }
 
+    /// Whether nothing stands.
+    ///
     /// Every catalogue is lawful: each body that stands can be entered again, what it names stands,
     /// and the counts are within their bounds.
     pub fn is_empty(&self) -> bool
+        ensures empty { IsTrue result ↔ (self.now ≡ empty) }
         ensures lawful { Lawful K.alphabet self.now }
     {
         self.signatures.is_empty() && self.formats.is_empty()

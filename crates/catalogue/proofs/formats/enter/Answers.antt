@@ -1,4 +1,4 @@
-use Rattle.std.proofs.Common.{◌≡◌, None, Some, map, ltb, sym, ◌∙◌, ap, subst, arith}
+use Rattle.std.proofs.Common.{◌≡◌, None, Some, map, ltb, sym, refl, ◌∙◌, ap, subst, arith}
 use Rattle.std.specs.List.{insert, count_by}
 use Rattle.records.specs.Book as book
 use Rattle.records.specs.Refusals.{format_refused}
@@ -30,7 +30,7 @@ returns-clause-pairs g c =
     subst
     (λ o. map format_pair c.insert.new.self.items ≡ with_entry o (map format_pair formats) c.args.format.id c.args.body.now)
     (sym none)
-    (ap (map format_pair) stands ∙ inserted_pairs format_pair formats entry ∙ ap (inserted (map format_pair formats) c.args.format.id) c.in-Ok.ensures.0)
+    (ap (map format_pair) stands ∙ inserted_pairs format_pair formats entry c.args.format.id c.in-Ok.body.items refl ∙ ap (inserted (map format_pair formats) c.args.format.id) c.in-Ok.ensures.0)
 
 pub returns-clause-holds : goal.returns-clause-holds
 returns-clause-holds g c =

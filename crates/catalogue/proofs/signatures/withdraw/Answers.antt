@@ -1,13 +1,13 @@
 use Rattle.std.proofs.Common.{map, sym, ap, ◌∙◌, subst, arith}
 use Rattle.engine.specs.Tables.{cleared}
+use Rattle.records.proofs.Books.{map_remove}
 use Rattle.catalogue.specs.Standing.{signature_pair, slots_of, SignaturesHold}
-use Rattle.catalogue.proofs.Sorted.{pairs_removed}
 use Rattle.catalogue.proofs.Withdrawn.{removed_holds}
 use Rattle.catalogue.proofs.signatures.withdraw.Goals as goal
 
 pub returns-clause-pairs : goal.returns-clause-pairs
 returns-clause-pairs g c =
-    ap (map signature_pair) c.remove-withdrawn.ensures.items ∙ pairs_removed signature_pair c.args.signatures.now.items c.args.place
+    ap (map signature_pair) c.remove-withdrawn.ensures.items ∙ map_remove signature_pair c.args.signatures.now.items c.args.place
 
 pub returns-clause-holds : goal.returns-clause-holds
 returns-clause-holds g c =

@@ -2,7 +2,7 @@
 ghost use Rattle.std.specs.Prelude.{◌≡◌, ◌≤◌, replicate};
 ghost use Rattle.trials.specs.Repeated.{FitsReading-replicate};
 
-use crate::records::{format, signature};
+use crate::made::{format, signature};
 use catalogue::{Catalogue, Cause, Fault, Hit, HitStatus, Status};
 use kinds::{Byte, Bytes, Kind, Reading};
 use std::alloc::Global;

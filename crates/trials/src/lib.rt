@@ -5,6 +5,6 @@
 #[cfg(test)]
 mod bounds;
 #[cfg(test)]
-mod records;
+mod made;
 #[cfg(test)]
 mod worked;

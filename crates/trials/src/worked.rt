@@ -1,5 +1,5 @@
 //! The numbers of the published worked example, through a catalogue.
-use crate::records::signature;
+use crate::made::signature;
 use catalogue::{Catalogue, Cause, Fault};
 use kinds::Byte;
 use std::process::Abort;

@@ -1,7 +1,7 @@
 #!/usr/bin/env bash
 # What the compiler must turn down never reaches the prover, so no must-fail edit can show it.
 # This writes small programs over the library into a temporary folder and expects the errors by name:
-#   borrow-e0382                a reading is used after it was handed over
+#   borrow-e0382                a reading is used after it was handed over, and one reading is identified twice
 #   borrow-e0506                bytes are written while a reading of them stands
 #   mismatched-associated-type  a sequence of marks is looked for in bytes
 # The first two without their faults, in one program, must be proved.
@@ -10,7 +10,7 @@ top=$(cd "$(dirname "$0")/.." && pwd)
 work=$(mktemp -d)
 trap 'rm -rf "$work"' EXIT
 mkdir -p "$work/crates"
-for crate in faults kinds patterns rows lexer engine; do
+for crate in faults kinds patterns rows lexer engine records catalogue; do
     cp -r "$top/crates/$crate" "$work/crates/$crate"
     rm -rf "$work/crates/$crate/must-fail" "$work/crates/$crate/out"
 done
@@ -67,9 +67,24 @@ fn main() {
     }
 }
 PROGRAM
-grep -E '^(faults|kinds|patterns|rows|lexer|engine):' "$top/crates.txt" >"$work/crates.txt"
+mkdir -p "$work/crates/identified_twice/src"
+cat >"$work/crates/identified_twice/src/main.rt" <<'PROGRAM'
+#![tactic(auto)]
+
+use catalogue::{Catalogue, Hit};
+use kinds::{Byte, Bytes};
+
+fn identify_twice(catalogue: &Catalogue<Byte>, file: &[u8], hits: &mut [Hit]) {
+    let reading = Bytes::new(file);
+    let _first = catalogue.identify(reading, b"", hits);
+    let _second = catalogue.identify(reading, b"", hits);
+}
+
+fn main() {}
+PROGRAM
+grep -E '^(faults|kinds|patterns|rows|lexer|engine|records|catalogue):' "$top/crates.txt" >"$work/crates.txt"
 printf '%s\n' 'handed_over_twice: kinds' 'written_under_reading: kinds' 'lawful: kinds' \
-    'marks_in_bytes: engine kinds' >>"$work/crates.txt"
+    'marks_in_bytes: engine kinds' 'identified_twice: catalogue kinds' >>"$work/crates.txt"
 cd "$work"
 
 # check NAME: proves a program; what the check says stands in the log
@@ -101,6 +116,7 @@ refused() {
 refused check handed_over_twice borrow-e0382
 refused check written_under_reading borrow-e0506
 refused compiled marks_in_bytes mismatched-associated-type
+refused compiled identified_twice borrow-e0382
 if ! check lawful; then
     echo "borrow_rules: lawful was refused:"
     cat "$work/log"

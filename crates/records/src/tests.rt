@@ -19,7 +19,7 @@ const FORMAT: [u8; 18] = [
 
 #[test]
 fn reads_a_signature(rt: HostRuntime) -> Result<(), Fail> {
-    let Ok(Entry::Signature(signature)) = read::<Byte>(&SIGNATURE) else {
+    let Ok((Entry::Signature(signature), _)) = read::<Byte>(&SIGNATURE) else {
         return Err("the record enters a signature".into());
     };
     assert_eq!(rt; signature.id, 1);
@@ -34,7 +34,7 @@ fn reads_a_signature(rt: HostRuntime) -> Result<(), Fail> {
 
 #[test]
 fn reads_a_format(rt: HostRuntime) -> Result<(), Fail> {
-    let Ok(Entry::Format(format)) = read::<Byte>(&FORMAT) else {
+    let Ok((Entry::Format(format), _)) = read::<Byte>(&FORMAT) else {
         return Err("the record enters a format".into());
     };
     assert_eq!(rt; format.id, 7);

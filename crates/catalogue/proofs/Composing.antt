@@ -1,6 +1,6 @@
 -- The calls of a catalogue: what its fields hold, and what its book is, before and after them.
 use Rattle.std.proofs.Common.{◌≡◌, ◌==◌, ◌&&◌, ◌↔◌, IsTrue, ℕ, zero, suc, ◌<◌, Bool, true, false, not, List, [], ◌∷◌, map, length, get_or, drop, replicate, Some, None, Ok, Err, Option, Result, is_some, sym, refl, ap, ◌∙◌, subst, arith}
-use Rattle.std.proofs.lemmas.Bool.{false≢true, eqb-true}
+use Rattle.std.proofs.lemmas.Bool.{false≢true, eqb-true, ne_eqb}
 use Rattle.std.proofs.lemmas.List.Quantifiers.{position-Some}
 use Rattle.std.proofs.lemmas.Option.{slice_get-map, slice_get-get_or}
 use Rattle.std.specs.FinMap as finite
@@ -53,14 +53,16 @@ nothing_holds a = record {
 pub empty_decided : {K : Type 0} (signatures : List (StandingSignature K)) (formats : List StandingFormat) → Rise (map signature_pair signatures) → Rise (map format_pair formats)
     → (b : Bool) → b ≡ ((length signatures == 0) && (length formats == 0)) → IsTrue b ↔ (book_in signatures formats ≡ empty)
 empty_decided [] [] signatures_rise formats_rise b is = (λ _. book_nil, λ _. is)
-empty_decided [] (f ∷ fs) signatures_rise formats_rise b is = (
-  λ t. absurd (false≢true (sym is ∙ t)),
-  λ e. absurd (omega (arith, len-bodies format_pair (f ∷ fs) formats_rise, ap (λ (x : Book). finite.len x.formats) e, finite.len-empty nat_cmp (List ℕ))),
-)
-empty_decided (s ∷ ss) formats signatures_rise formats_rise b is = (
-  λ t. absurd (false≢true (sym is ∙ t)),
-  λ e. absurd (omega (arith, len-bodies signature_pair (s ∷ ss) signatures_rise, ap (λ (x : Book). finite.len x.signatures) e, finite.len-empty nat_cmp (List ℕ))),
-)
+empty_decided [] (f ∷ fs) signatures_rise formats_rise b is =
+    let some : (length (f ∷ fs) == 0) ≡ false = ne_eqb (length (f ∷ fs)) 0 (λ none. omega arith) in (
+      λ t. absurd (false≢true (sym (is ∙ some) ∙ t)),
+      λ e. absurd (omega (arith, len-bodies format_pair (f ∷ fs) formats_rise, ap (λ (x : Book). finite.len x.formats) e, finite.len-empty nat_cmp (List ℕ))),
+    )
+empty_decided (s ∷ ss) formats signatures_rise formats_rise b is =
+    let some : (length (s ∷ ss) == 0) ≡ false = ne_eqb (length (s ∷ ss)) 0 (λ none. omega arith) in (
+      λ t. absurd (false≢true (sym (is ∙ ap (λ x. x && (length formats == 0)) some) ∙ t)),
+      λ e. absurd (omega (arith, len-bodies signature_pair (s ∷ ss) signatures_rise, ap (λ (x : Book). finite.len x.signatures) e, finite.len-empty nat_cmp (List ℕ))),
+    )
 
 -- Entering.
 

@@ -9,7 +9,8 @@ ghost use Rattle.records.specs.Refusals.{format_refused, missing_id};
 ghost use Rattle.records.specs.Report.{among_ids};
 ghost use Rattle.records.specs.Taken.{format_in};
 ghost use Rattle.catalogue.specs.Entering.{with_entry};
-ghost use Rattle.catalogue.specs.Standing.{bodies, book_of, format_pair, formats_in, FormatsHold, Rise};
+ghost use Rattle.catalogue.specs.Standing.{bodies, book_of, format_pair, formats_in};
+ghost use Rattle.catalogue.specs.Standing.{FormatsHold, Rise};
 
 use crate::standing::{Standing, place_of, stands};
 use arrayvec::ArrayVec;
@@ -52,8 +53,8 @@ fn first_missing<S: Standing>(standing: &[S], ids: &[u16]) -> Option<u16>
     ids.iter().copied().find(|id| !stands(standing, *id))
 }
 
-// The first id that a format names and that does not stand: of a signature, then of a format that it
-// outranks.
+// The first id that a format names and that does not stand: of a signature, then of a format that
+// it outranks.
 pub(crate) fn missing<S: Standing>(
     signatures: &[S],
     formats: &[StandingFormat],

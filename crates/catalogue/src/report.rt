@@ -43,8 +43,8 @@ fn hit_flags(hitting: &[Hitting], formats: &[StandingFormat]) -> ArrayVec<bool, 
 
 // Whether one of the formats whose flags are set outranks a format.
 fn is_struck(formats: &[StandingFormat], flags: &[bool], format: u16) -> bool
-    ensures { result
-        ≡ list_any (λ f. among_ids format f.outranked) (flagged (formats_in formats.now) flags.now) }
+    ensures { result ≡ list_any (λ f. among_ids format f.outranked)
+        (flagged (formats_in formats.now) flags.now) }
 {
     formats
         .iter()

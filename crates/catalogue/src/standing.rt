@@ -1,5 +1,6 @@
 //! Entries that stand, by rising id.
-ghost use Rattle.std.specs.Prelude.{◌≡◌, ◌+◌, ◌*◌, ◌≤◌, ℕ, List, length, map, position, count_by, nat_lt, ◌==◌};
+ghost use Rattle.std.specs.Prelude.{◌≡◌, ◌+◌, ◌*◌, ◌≤◌, ◌==◌, ℕ, List};
+ghost use Rattle.std.specs.Prelude.{count_by, length, map, nat_lt, position};
 ghost use Rattle.std.specs.FinMap.{contains_key};
 ghost use Rattle.records.specs.Calls.{record_with};
 ghost use Rattle.catalogue.specs.Standing.{bodies, Rise};
@@ -65,7 +66,8 @@ fn write_bytes(bytes: &[u8], buffer: &mut [u8], at: usize) -> usize
     behind
 }
 
-// Writes a record of a kind with a body into a buffer from a place on, and answers the place behind it.
+// Writes a record of a kind with a body into a buffer from a place on, and answers the place behind
+// it.
 fn write_record(kind: u16, body: &[u8], buffer: &mut [u8], at: usize) -> usize
     requires short { length body.now ≤ 828 }
     requires room { at + length (record_with kind body.now) ≤ length buffer.old }

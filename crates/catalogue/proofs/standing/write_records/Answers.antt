@@ -1,7 +1,7 @@
 use Rattle.std.proofs.Common.{◌≡◌, ◌+◌, ◌≤◌, map, length, take, ap, sym, ◌∙◌, arith, length-append}
 use Rattle.records.specs.Calls.{record_with}
 use Rattle.catalogue.specs.Writing.{over_from, records_of}
-use Rattle.catalogue.proofs.Writing.{written_behind, records_more, records_within, length-over_from}
+use Rattle.catalogue.proofs.Writing.{written_behind, records_more, records_within}
 use Rattle.catalogue.proofs.standing.write_records.Goals as goal
 
 pub write_record-place-requires-clause-room : goal.write_record-place-requires-clause-room

@@ -98,7 +98,7 @@ fn answered<K: Lane>(
 /// Enters records, identifies a reading without a label a number of times, and answers the least
 /// time of a question; or the refusal of a record or of the reading. The kind of the first record
 /// decides whether the reading is of bytes or of axle marks.
-pub(crate) fn identified(
+pub(crate) fn measure_reports(
     alloc: Global,
     clock: &impl Clock,
     records: &[u8],

@@ -13,7 +13,7 @@ mod measure;
 mod request;
 
 use complaint::Complaint;
-use identify::identified;
+use identify::measure_reports;
 use measure::measured;
 use request::{Asked, Question, Request};
 
@@ -49,7 +49,7 @@ fn report(rt: &HostRuntime, question: Question) -> Result<String, Complaint> {
     let alloc = rt.alloc();
     let records = fs::read(rt, question.records).map_err(Complaint::Unreadable)?;
     let file = fs::read(rt, question.file).map_err(Complaint::Unreadable)?;
-    match identified(
+    match measure_reports(
         alloc,
         rt,
         records.as_slice(),

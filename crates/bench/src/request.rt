@@ -41,7 +41,7 @@ pub enum Asked<'w> {
 }
 
 // What the words behind `--identify` ask for.
-fn question<'w>(words: &[&'w str]) -> Result<Question<'w>, Complaint> {
+fn question_of<'w>(words: &[&'w str]) -> Result<Question<'w>, Complaint> {
     let (records, file, runs) = match words {
         [records, file] => (*records, *file, RUNS),
         [records, file, runs] => (*records, *file, runs_of(runs)?),
@@ -61,7 +61,7 @@ impl<'w> TryFrom<&[&'w str]> for Asked<'w> {
     fn try_from(words: &[&'w str]) -> Result<Asked<'w>, Complaint> {
         let (file, text, runs, order) = match words {
             [] | ["--help"] => return Ok(Asked::Usage),
-            ["--identify", rest @ ..] => return Ok(Asked::Identify(question(rest)?)),
+            ["--identify", rest @ ..] => return Ok(Asked::Identify(question_of(rest)?)),
             [file, text] => (file, text, RUNS, Order::Forward),
             [file, text, "backward"] => (file, text, RUNS, Order::Backward),
             [file, text, runs] => (file, text, runs_of(runs)?, Order::Forward),

@@ -22,7 +22,7 @@ use Rattle.records.proofs.Books.{none_from, get_made}
 use Rattle.records.proofs.Members.{holds_at}
 use Rattle.catalogue.specs.Hitting.{numbers_in, hitting_of, hitting_signature, standing_hits}
 use Rattle.catalogue.specs.Reporting.{bare, hitting_in}
-use Rattle.catalogue.specs.Standing.{signature_pair, format_pair, formats_in, book_of, book_in, Rise, SignatureHeld, SignaturesHold, Holds}
+use Rattle.catalogue.specs.Standing.{signature_pair, format_pair, formats_in, book_in, Rise, SignatureHeld, SignaturesHold, Holds}
 use Rattle.catalogue.specs.Writing.{records_of, over_from}
 use Rattle.catalogue.specs.declared.hitting.Hitting.{Hitting}
 use Rattle.catalogue.specs.declared.formats.StandingFormat.{StandingFormat}

@@ -1,12 +1,9 @@
 -- Why a signature is refused where others stand, cause by cause.
-use Rattle.std.proofs.Common.{◌≡◌, ℕ, ◌+◌, ◌<◌, ◌≤◌, Bool, true, false, eqb, leb, List, [], ◌∷◌, map, length, Some, None, Option, refl, sym, ◌∙◌, arith}
+use Rattle.std.proofs.Common.{◌≡◌, ℕ, ◌+◌, ◌<◌, ◌≤◌, Bool, true, false, eqb, leb, List, [], ◌∷◌, map, length, Some, None, Option, refl, ◌∙◌, arith}
 use Rattle.std.specs.FinMap as finmap
 use Rattle.std.specs.List.{position}
-use Rattle.std.specs.FinMap.{find}
-use Rattle.std.specs.Option.{is_some, option_or}
-use Rattle.std.specs.Ordering.{nat_cmp}
+use Rattle.std.specs.Option.{is_some}
 use Rattle.std.proofs.lemmas.Bool.{lt-ltb, le-ltb, le-leb, lt-leb, leb-false}
-use Rattle.std.proofs.lemmas.List.{length-map}
 use Rattle.faults.specs.Faults.{outside}
 use Rattle.faults.specs.declared.fault.Cause.TheVariants.{Taken, Full}
 use Rattle.faults.specs.declared.fault.Fault.{Fault}
@@ -16,7 +13,7 @@ use Rattle.engine.specs.Tables.{free_slots}
 use Rattle.engine.specs.declared.fragment.Fragment.{Fragment}
 use Rattle.records.specs.Book.{fragments_of, fragments_standing}
 use Rattle.records.specs.Entries.{Signature}
-use Rattle.records.specs.Refusals.{refused_from, refused_if, first_of, signature_taken, text_refused, signatures_full, fragments_full}
+use Rattle.records.specs.Refusals.{refused_from, first_of, signature_taken, text_refused, signatures_full, fragments_full}
 use Rattle.catalogue.specs.Entering.{fragment_total, signature_refused, signatures_in, Compiles}
 use Rattle.catalogue.specs.Standing.{signature_pair, bodies, SignaturesHold}
 use Rattle.catalogue.specs.declared.signatures.StandingSignature.{StandingSignature}

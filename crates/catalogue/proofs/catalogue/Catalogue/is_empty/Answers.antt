@@ -1,4 +1,4 @@
-use Rattle.std.proofs.Common.{◌≡◌, ◌==◌, ◌&&◌, ◌↔◌, IsTrue, length, subst, sym, ap, ◌∙◌}
+use Rattle.std.proofs.Common.{◌≡◌, ◌==◌, ◌&&◌, ◌↔◌, IsTrue, length, subst, ap, ◌∙◌}
 use Rattle.records.specs.Book.{empty}
 use Rattle.catalogue.proofs.Composing.{empty_decided}
 use Rattle.catalogue.proofs.catalogue.Catalogue.is_empty.Goals as goal

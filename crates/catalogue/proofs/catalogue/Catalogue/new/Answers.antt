@@ -1,5 +1,3 @@
-use Rattle.std.proofs.Common.{arith}
-use Rattle.catalogue.specs.Standing.{Holds}
 use Rattle.catalogue.proofs.Composing.{book_nil, nothing_holds}
 use Rattle.catalogue.proofs.catalogue.Catalogue.new.Goals as goal
 

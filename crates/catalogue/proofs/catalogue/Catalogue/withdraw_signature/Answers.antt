@@ -12,7 +12,7 @@ use Rattle.records.specs.Entries.{Format}
 use Rattle.records.specs.Refusals.{signature_kept, signature_named}
 use Rattle.records.specs.Report.{among_ids}
 use Rattle.records.proofs.Keeping.{books_stay_lawful}
-use Rattle.catalogue.specs.Standing.{bodies, signature_pair, format_pair, formats_in, book_in}
+use Rattle.catalogue.specs.Standing.{bodies, signature_pair, formats_in, book_in}
 use Rattle.catalogue.proofs.Composing.{kept_missing, kept_named, gone, smallest_standing, refused_answer, refused_leaves, holds_again}
 use Rattle.catalogue.proofs.catalogue.Catalogue.withdraw_signature.Given as given
 use Rattle.catalogue.proofs.catalogue.Catalogue.withdraw_signature.Goals as goal

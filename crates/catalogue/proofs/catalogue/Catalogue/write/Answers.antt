@@ -1,6 +1,4 @@
-use Rattle.std.proofs.Common.{◌≡◌, ◌+◌, ◌≤◌, ℕ, List, length, map, Ok, Err, subst, sym, ap, ◌∙◌, arith}
-use Rattle.faults.specs.Faults.{outside}
-use Rattle.faults.specs.declared.fault.Cause.TheVariants.{ShortBuffer}
+use Rattle.std.proofs.Common.{◌≡◌, ◌+◌, ◌≤◌, ℕ, List, length, map, Err, subst, sym, ap, ◌∙◌, arith}
 use Rattle.records.specs.Calls.{unless, after, over, written, writing, wrote}
 use Rattle.records.specs.Refusals.{buffer_short}
 use Rattle.catalogue.specs.Standing.{signature_pair, format_pair, book_in, Holds}

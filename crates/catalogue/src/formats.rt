@@ -65,10 +65,8 @@ pub(crate) fn missing<S: Standing>(
     ensures { result ≡ missing_id
         (book_of (map S.pair signatures.now) (map format_pair formats.now)) (format_in format.now) }
 {
-    first_missing(signatures, &format.signatures).or_else(|| first_missing(
-        formats,
-        &format.outranked,
-    ))
+    let signature = first_missing(signatures, &format.signatures);
+    signature.or_else(|| first_missing(formats, &format.outranked))
 }
 
 // The smallest id of the formats that name a signature, where ids rise.

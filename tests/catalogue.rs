@@ -98,6 +98,43 @@ impl<'r> Fields<'r> {
     }
 }
 
+// The fields of a sequence in a record.
+struct SequenceFields<'r> {
+    letter: u8,
+    lo: u16,
+    hi: u16,
+    text: &'r [u8],
+}
+
+impl<'r> SequenceFields<'r> {
+    fn read(fields: &mut Fields<'r>) -> Result<Self, Refusal> {
+        let letter = fields.byte(|c| b"BEV".contains(&c))?;
+        // both offsets of V are 0
+        let lo = fields.two(|lo| letter != b'V' || lo == 0)?;
+        let hi = fields.two(|hi| lo <= hi && (letter != b'V' || hi == 0))?;
+        let text = fields.counted(|n| (1..=200).contains(&n), |_| true)?;
+        Ok(SequenceFields {
+            letter,
+            lo,
+            hi,
+            text,
+        })
+    }
+
+    // The sequence, or the refusal of its text, with its number.
+    fn checked(&self, kind: Kind, number: usize) -> Result<Sequence, Refusal> {
+        match checked(kind, self.text) {
+            Ok(items) => Ok(Sequence {
+                letter: self.letter,
+                lo: self.lo.into(),
+                hi: self.hi.into(),
+                items,
+            }),
+            Err((cause, place)) => refused(cause, number, place),
+        }
+    }
+}
+
 #[derive(Clone)]
 pub struct Sequence {
     pub letter: u8,
@@ -186,33 +223,18 @@ impl Catalogue {
     fn enter_signature(&mut self, mut fields: Fields) -> Result<u16, Refusal> {
         let id = fields.two(|_| true)?;
         let specific = fields.byte(|n| n <= 1)? == 1;
-        let count = fields.byte(|n| 1 <= n && n <= 4)?;
+        let count = fields.byte(|n| (1..=4).contains(&n))?;
         let mut read = vec![];
         for _ in 0..count {
-            let letter = fields.byte(|c| b"BEV".contains(&c))?;
-            // both offsets of V are 0
-            let lo = fields.two(|lo| letter != b'V' || lo == 0)?;
-            let hi = fields.two(|hi| lo <= hi && (letter != b'V' || hi == 0))?;
-            let text = fields.counted(|n| 1 <= n && n <= 200, |_| true)?;
-            read.push((letter, lo, hi, text));
+            read.push(SequenceFields::read(&mut fields)?);
         }
         fields.end()?;
         if self.has_signature(id) {
             return refused(2, 0, id.into());
         }
         let mut sequences = vec![];
-        for (letter, lo, hi, text) in read {
-            let items = match checked(self.kind, text) {
-                Ok(items) => items,
-                Err((number, place)) => return refused(number, sequences.len() + 1, place),
-            };
-            let (lo, hi) = (lo.into(), hi.into());
-            sequences.push(Sequence {
-                letter,
-                lo,
-                hi,
-                items,
-            });
+        for (k, sequence) in read.iter().enumerate() {
+            sequences.push(sequence.checked(self.kind, k + 1)?);
         }
         let new = Signature {
             id,
@@ -239,7 +261,7 @@ impl Catalogue {
         let mut labels = vec![];
         for _ in 0..count {
             let allowed = |c: &u8| c.is_ascii_lowercase() || c.is_ascii_digit();
-            labels.push(fields.counted(|n| 1 <= n && n <= 8, allowed)?.to_vec());
+            labels.push(fields.counted(|n| (1..=8).contains(&n), allowed)?.to_vec());
         }
         fields.end()?;
         if self.has_format(id) {
@@ -263,53 +285,55 @@ impl Catalogue {
         Ok(id)
     }
 
-    // The report's status and its formats, by rising id.
-    fn report(&self, reading: &[u16], label: &[u8]) -> (&'static str, Vec<Hit>) {
+    // The formats of which a signature hits, and whether a specific one does.
+    fn hit_formats(&self, reading: &[u16]) -> Vec<(&Format, bool)> {
+        let is_named = |s: &&Signature| self.formats.iter().any(|f| f.signatures.contains(&s.id));
         let hit: Vec<&Signature> = self
             .signatures
             .iter()
-            .filter(|s| self.formats.iter().any(|f| f.signatures.contains(&s.id)))
+            .filter(is_named)
             .filter(|s| s.hits(reading))
             .collect();
-        // the signatures of a format that hit
-        let of = |f: &Format| hit.iter().filter(|s| f.signatures.contains(&s.id)).count();
-        let is_specific = |f: &Format| {
-            hit.iter()
-                .any(|s| f.signatures.contains(&s.id) && s.specific)
-        };
-        let hit_formats: Vec<&Format> = self.formats.iter().filter(|f| of(f) > 0).collect();
-        let mut listed = vec![];
-        for f in &hit_formats {
-            // a hit format that is struck itself strikes others all the same
-            if hit_formats.iter().any(|g| g.outranked.contains(&f.id)) {
-                continue;
+        let mut formats = vec![];
+        for format in &self.formats {
+            let mut own = hit.iter().filter(|s| format.signatures.contains(&s.id));
+            if own.clone().next().is_some() {
+                formats.push((format, own.any(|s| s.specific)));
             }
-            listed.push(Hit {
-                id: f.id,
-                status: if is_specific(f) {
-                    "specific"
-                } else {
-                    "generic"
-                },
-                mismatch: !f.labels.is_empty() && !f.is_labelled(label),
-            });
         }
-        let mut status = "positive";
-        if hit_formats.is_empty() {
-            for f in self.formats.iter().filter(|f| f.is_labelled(label)) {
+        formats
+    }
+
+    // The report's status and its formats, by rising id.
+    fn report(&self, reading: &[u16], label: &[u8]) -> (&'static str, Vec<Hit>) {
+        let hit = self.hit_formats(reading);
+        // a format that is struck itself strikes others all the same
+        let is_struck = |id| hit.iter().any(|(other, _)| other.outranked.contains(&id));
+        let mut listed = vec![];
+        for (format, is_specific) in &hit {
+            if !is_struck(format.id) {
                 listed.push(Hit {
-                    id: f.id,
-                    status: "tentative",
-                    mismatch: false,
+                    id: format.id,
+                    status: if *is_specific { "specific" } else { "generic" },
+                    mismatch: !format.labels.is_empty() && !format.is_labelled(label),
                 });
             }
-            status = if listed.is_empty() {
-                "negative"
-            } else {
-                "tentative"
-            };
+        }
+        let labelled = self.formats.iter().filter(|f| f.is_labelled(label));
+        let tentative = |f: &Format| Hit {
+            id: f.id,
+            status: "tentative",
+            mismatch: false,
+        };
+        if hit.is_empty() {
+            listed = labelled.map(tentative).collect();
         }
         listed.sort_by_key(|hit| hit.id);
+        let status = match (hit.is_empty(), listed.is_empty()) {
+            (false, _) => "positive",
+            (true, false) => "tentative",
+            (true, true) => "negative",
+        };
         (status, listed)
     }
 

@@ -1,5 +1,5 @@
 // Random streams of records: good ones, damaged ones, and ones that fill the tables.
-use crate::catalogue::{kind_of, record_kinds, Catalogue, Signature, MOST_BODY};
+use crate::catalogue::{kind_of, record_kinds, Catalogue, Sequence, Signature, MOST_BODY};
 use crate::draw::Random;
 use crate::rules::Kind;
 
@@ -64,8 +64,9 @@ struct Maker {
     // of a hundred records, how many are damaged, and how many have a length that does not fit
     damaged: usize,
     misfits: usize,
-    // whether formats outrank others
-    ranked: bool,
+    // how many signatures a format names, and how many formats it outranks: one of these
+    named: &'static [usize],
+    outranked: &'static [usize],
 }
 
 impl Maker {
@@ -79,7 +80,8 @@ impl Maker {
             ids: random.pick(&[4, 10, 30, 60, 300]),
             damaged: random.pick(&[0, 0, 5, 15, 40]),
             misfits: random.pick(&[0, 0, 0, 0, 0, 0, 2, 8]),
-            ranked: random.pick(&[true, true, false]),
+            named: &[0, 1, 1, 1, 2, 2, 3, 8],
+            outranked: random.pick(&[&[0, 0, 1, 1, 2, 8], &[0, 1, 1, 3], &[0]]),
             random,
         }
     }
@@ -102,12 +104,9 @@ impl Maker {
             self.great_body();
         }
         if self.random.once_in(9) {
-            let from = if self.random.once_in(2) {
-                self.stream.len().saturating_sub(40)
-            } else {
-                0
-            };
-            let kept = from + self.random.below(self.stream.len() - from + 1);
+            let len = self.stream.len();
+            let from = self.random.pick(&[0, len.saturating_sub(40)]);
+            let kept = from + self.random.below(len - from + 1);
             self.stream.truncate(kept);
         }
     }
@@ -179,12 +178,18 @@ impl Maker {
         self.put(draft);
         self.kind = kind_of(&self.stream);
         self.catalogue = Catalogue::new(self.kind);
+        self.catalogue.answer(&self.stream);
         self.mixed();
     }
 
-    fn full_of_signatures(&mut self) {
+    // Tables fill up only where few records are refused.
+    fn leave_room(&mut self) {
         self.damaged = self.damaged.min(5);
         self.ids = self.ids.max(60);
+    }
+
+    fn full_of_signatures(&mut self) {
+        self.leave_room();
         self.signatures(0, 2);
         for _ in 0..60 {
             if self.catalogue.signatures.len() == 24 {
@@ -198,16 +203,16 @@ impl Maker {
     }
 
     fn full_of_fragments(&mut self) {
-        self.damaged = self.damaged.min(5);
-        self.ids = self.ids.max(60);
-        let most = self.random.pick(&[1, 3, 8, 8, 8]);
-        // often just full, or short of it by one
-        let counts: Vec<usize> = match self.random.below(3) {
-            0 => vec![8; 12],
-            1 => [&[8; 11][..], &[7]].concat(),
-            _ => (0..100).map(|_| 1 + self.random.below(most)).collect(),
+        self.leave_room();
+        let most = self.random.pick(&[1, 3, 8, 8]);
+        // just full, short of it by one, full of signatures too, or as it comes
+        let all: Vec<Vec<usize>> = match self.random.below(5) {
+            0 => vec![vec![8; 4]; 3],
+            1 => vec![vec![8; 4], vec![8, 8, 8, 7], vec![8; 4]],
+            2 => vec![vec![4]; 24],
+            _ => (0..26).map(|_| self.counts(4, most)).collect(),
         };
-        for counts in counts.chunks(4) {
+        for counts in all {
             let texts: Vec<_> = counts.iter().map(|n| self.text_in_parts(*n)).collect();
             // one that is refused behind good sequences must leave nothing in the table
             if self.random.once_in(4) {
@@ -225,10 +230,20 @@ impl Maker {
         self.some(8);
     }
 
+    fn counts(&mut self, len: usize, most: usize) -> Vec<usize> {
+        (0..len).map(|_| 1 + self.random.below(most)).collect()
+    }
+
     fn full_of_formats(&mut self) {
-        self.damaged = self.damaged.min(5);
-        self.ids = self.ids.max(60);
-        self.small_signatures(0, 3);
+        self.leave_room();
+        if self.random.once_in(4) {
+            // all formats hit together
+            self.small_signatures(1, 1);
+            self.named = &[1];
+            self.outranked = &[0];
+        } else {
+            self.small_signatures(0, 3);
+        }
         for _ in 0..90 {
             if self.catalogue.formats.len() == 48 {
                 break;
@@ -252,24 +267,20 @@ impl Maker {
 
     // A body at the limit, or above it, whole or not.
     fn great_body(&mut self) {
-        let len = self
-            .random
-            .pick(&[4096, 4096, 4097, 4097, 4098, 8192, 65535]);
-        let kind = self.random.pick(&record_kinds(self.kind));
-        let len = if self.random.once_in(8) {
-            4097 + self.random.below(61439)
-        } else {
-            len
+        let len = match self.random.below(8) {
+            0..=2 => 4096,
+            3 | 4 => 4097,
+            5 => 4097 + self.random.below(61439),
+            _ => self.random.pick(&[4098, 8192, 65535]),
         };
-        let missing = self.random.pick(&[0, 0, 0, 1, len - 20, len]);
+        let kind = self.random.pick(&record_kinds(self.kind));
+        let reading = self.elements(len - 1);
+        let mut body = vec![0];
+        body.extend(reading.iter().map(|code| self.packed(*code)));
+        body.truncate(len - self.random.pick(&[0, 0, 0, 1, len - 20, len]));
         self.stream.extend((len as u16).to_le_bytes());
         self.stream.extend(kind.to_le_bytes());
-        let from = self.stream.len();
-        self.stream.push(0);
-        let letters = self.elements(len - 1);
-        let packed: Vec<u8> = letters.iter().map(|code| self.packed(*code)).collect();
-        self.stream.extend(packed);
-        self.stream.truncate(from + len - missing);
+        self.stream.extend(body);
         self.some(3);
     }
 
@@ -288,21 +299,22 @@ impl Maker {
         id
     }
 
-    // One of some limits of a list of ids, or seldom one above what is allowed.
-    fn most_ids(&mut self, limits: &[usize]) -> usize {
-        match self.random.below(40) {
+    // Some of the ids below a bound, in rising order: as many as one of the limits says or seldom one too many, and seldom some
+    // that may not stand.
+    fn some_of(&mut self, ids: Vec<u16>, bound: usize, limits: &[usize]) -> Vec<u16> {
+        let mut ids = ids;
+        ids.retain(|id| usize::from(*id) < bound);
+        let most = match self.random.below(40) {
             0 => 9,
             _ => self.random.pick(limits),
-        }
-    }
-
-    // Up to so many of the ids, in rising order, and seldom one that may not stand.
-    fn some_of(&mut self, mut ids: Vec<u16>, most: usize) -> Vec<u16> {
+        };
         while ids.len() > most {
             ids.remove(self.random.below(ids.len()));
         }
         if self.random.once_in(16) {
-            ids.push(self.random.below(self.ids) as u16);
+            for _ in 0..1 + self.random.below(3) {
+                ids.push(self.random.below(bound.clamp(1, self.ids)) as u16);
+            }
         }
         ids.sort_unstable();
         ids.dedup();
@@ -334,14 +346,38 @@ impl Maker {
         text.into_bytes()
     }
 
-    // Two runs and a gap beside the greatest span.
+    // Two runs and a gap: beside the greatest span, or a great one without upper end.
     fn wide_text(&mut self) -> Vec<u8> {
-        let most = 1015 + self.random.below(12);
-        let least = self.random.pick(&[0, 1, most, most - 3]);
         let lens = [1, 2].map(|n| n + self.random.below(3));
         let [first, last] = lens.map(|n| self.random.run(self.kind, n));
+        let most = 1015 + self.random.below(12);
+        let least = self.random.pick(&[0, 1, most, most - 3]);
         let before = self.random.pick(&["", "", "??", "*", "{2}*"]);
-        format!("{first}{before}{{{least}-{most}}}{last}").into_bytes()
+        let gap = match self.random.below(6) {
+            0 => format!("{{{most}-*}}"),
+            1 => format!("*{{{}}}", self.random.pick(&[1025, 2000, 3000, 9999])),
+            _ => format!("{before}{{{least}-{most}}}"),
+        };
+        format!("{first}{gap}{last}").into_bytes()
+    }
+
+    // Several faults, most of them with number 4.
+    fn faulty_text(&mut self) -> Vec<u8> {
+        let mut text = String::new();
+        for _ in 0..1 + self.random.below(11) {
+            text += &self.random.run(self.kind, 1);
+            let [one, other] = [0, 1].map(|_| self.random.run(self.kind, 1));
+            text += &match self.random.below(8) {
+                0 => self.random.pick(&["{5-4}", "*{7-2}", "{0-0}"]).into(),
+                1 => self.random.pick(&["{1020}", "{0-1022}", "{9999}"]).into(),
+                2 => format!("[{one}:{other}]"),
+                3 => format!("[!{one}:{other}{one}]"),
+                4 if self.random.once_in(4) => "{00001}".into(),
+                _ => "*".into(),
+            };
+        }
+        text += &self.random.run(self.kind, 1);
+        text.into_bytes()
     }
 
     // Things that are no literals, or few.
@@ -385,7 +421,8 @@ impl Maker {
                 self.text_in_parts(count)
             }
             89..=91 => self.wide_text(),
-            92..=95 => self.bare_text(),
+            92 | 93 => self.faulty_text(),
+            94 | 95 => self.bare_text(),
             96..=98 => self.long_text(),
             _ => vec![],
         };
@@ -456,47 +493,54 @@ impl Maker {
         let id = self.id(Catalogue::has_format);
         let mut draft = Draft::new(kind);
         draft.two(id);
+        let name = self.name();
+        draft.counted(&name);
+        let ids = self.catalogue.signatures.iter().map(|s| s.id).collect();
+        let signatures = self.some_of(ids, 65536, self.named);
+        draft.ids(&signatures);
+        let ids = self.catalogue.formats.iter().map(|f| f.id).collect();
+        let outranked = self.some_of(ids, id.into(), self.outranked);
+        draft.ids(&outranked);
+        let count = match self.random.below(40) {
+            0 => 5,
+            _ => self.random.pick(&[0, 0, 0, 1, 1, 2, 3, 4]),
+        };
+        draft.byte(count);
+        for _ in 0..count {
+            let label = self.format_label();
+            draft.counted(&label);
+        }
+        draft
+    }
+
+    fn name(&mut self) -> Vec<u8> {
         let len = match self.random.below(40) {
             0 => 41,
             _ => self.random.pick(&[0, 0, 1, 3, 3, 8, 39, 40]),
         };
         let any = |_| 0x20 + self.random.below(0x5F) as u8;
         let mut name: Vec<u8> = (0..len).map(any).collect();
-        if let [first, ..] = &mut name[..] {
-            *first = match self.random.below(60) {
+        if let [.., last] = &mut name[..] {
+            *last = match self.random.below(60) {
                 0 => self.random.pick(&[0x1F, 0x7F, 0x80, 0]),
-                _ => self.random.pick(&[*first, *first, 0x20, 0x7E]),
+                _ => self.random.pick(&[*last, *last, 0x20, 0x7E]),
             };
         }
-        draft.counted(&name);
-        let standing = self.catalogue.signatures.iter().map(|s| s.id).collect();
-        let most = self.most_ids(&[0, 1, 1, 1, 2, 2, 3, 8]);
-        let signatures = self.some_of(standing, most);
-        draft.ids(&signatures);
-        let lower = self.catalogue.formats.iter().map(|f| f.id);
-        let lower = lower.filter(|other| *other < id).collect();
-        let most = if self.ranked {
-            &[0, 0, 1, 1, 2, 8][..]
-        } else {
-            &[0]
-        };
-        let most = self.most_ids(most);
-        let outranked = self.some_of(lower, most);
-        draft.ids(&outranked);
-        let count = self.random.pick(&[0, 0, 0, 1, 1, 2, 3, 4]);
-        draft.byte(count);
-        for _ in 0..count {
-            let mut label = self.random.pick(&LABELS).as_bytes().to_vec();
-            if self.random.once_in(60) {
-                let at = self.random.below(label.len());
-                label[at] = self.random.pick(b"/:`{AZaz09");
-            }
-            draft.counted(&label);
-        }
-        draft
+        name
     }
 
-    // A label of a format, often as it is or in upper case, seldom with damage, or no label.
+    fn format_label(&mut self) -> Vec<u8> {
+        let mut label = self.random.pick(&LABELS).as_bytes().to_vec();
+        match self.random.below(120) {
+            0 => label.clear(),
+            1 => label.resize(9, b'z'),
+            2 | 3 => label[0] = self.random.pick(b"/:`{AZaz09"),
+            _ => {}
+        }
+        label
+    }
+
+    // A reading's label: one of a format, as it is, in upper case or with damage, or none.
     fn label(&mut self) -> Vec<u8> {
         let all = self.catalogue.formats.iter().flat_map(|f| f.labels.clone());
         let mut all: Vec<Vec<u8>> = all.collect();
@@ -535,7 +579,17 @@ impl Maker {
             }
             _ => self.aimed_reading(),
         };
-        reading.truncate(MOST_BODY - 1 - label.len());
+        let most = MOST_BODY - 1 - label.len();
+        if self.random.once_in(60) {
+            // among many others, at the front or at the back
+            let before = self.random.below(most);
+            let mut long = self.elements(most);
+            let at = self.random.pick(&[0, before, most]);
+            long.splice(at..at, reading);
+            let from = long.len() - most;
+            reading = long.split_off(self.random.pick(&[0, from]));
+        }
+        reading.truncate(most);
         let packed: Vec<u8> = reading.iter().map(|code| self.packed(*code)).collect();
         draft.counted(&label);
         draft.fields.push(packed);
@@ -580,19 +634,8 @@ impl Maker {
             for (_, item) in &sequence.items {
                 stretch.extend(self.random.stretch(self.kind, item, wide));
             }
-            let most = sequence.hi.min(sequence.lo + if wide { 1200 } else { 5 });
-            let apart = match self.random.below(4) {
-                0 => sequence.lo,
-                1 => most,
-                _ => sequence.lo + self.random.below(most - sequence.lo + 1),
-            };
-            // at times just out of reach
-            let apart = match self.random.below(12) {
-                0 => apart + 1,
-                1 => apart.saturating_sub(1),
-                _ => apart,
-            };
-            let apart = self.elements(apart.min(3000));
+            let apart = self.distance(sequence, wide);
+            let apart = self.elements(apart);
             match sequence.letter {
                 b'B' if front.is_empty() => front = [apart, stretch].concat(),
                 b'E' if back.is_empty() => back = [stretch, apart].concat(),
@@ -612,6 +655,20 @@ impl Maker {
             }
         }
         [front, middle, back].concat()
+    }
+
+    // A number of elements that a sequence's offsets allow, at times just out of reach.
+    fn distance(&mut self, sequence: &Sequence, wide: bool) -> usize {
+        let more = if wide { 1200 } else { 5 };
+        let (lo, hi) = (sequence.lo, sequence.hi.min(sequence.lo + more));
+        let between = lo + self.random.below(hi - lo + 1);
+        let distance = self.random.pick(&[lo, hi, between, between]);
+        let distance = match self.random.below(12) {
+            0 => distance + 1,
+            1 => distance.saturating_sub(1),
+            _ => distance,
+        };
+        distance.min(3000)
     }
 
     // A record of any kind: with a good body of some kind, or with a few bytes.
@@ -670,45 +727,44 @@ impl Maker {
         }
         let at = self.random.below(count);
         let len = draft.fields[at].len();
-        match self.random.below(20) {
-            0..=8 if len > 0 => {
-                let values = [0, 1, 2, 4, 5, 8, 9, 0x1F, 0x20, 40, 41, 0x41, 0x7E, 0x7F];
-                let more = [
-                    0x60, 0x61, 0x7A, 0x7B, 0x2F, 0x30, 0x39, 0x3A, 200, 201, 255,
-                ];
-                let byte = &mut draft.fields[at][self.random.below(len)];
-                *byte = match self.random.below(6) {
-                    0 => self.random.below(256) as u8,
-                    1 => byte.wrapping_add(1),
-                    2 => byte.wrapping_sub(1),
-                    3 => self.random.pick(b"BEVbev"),
-                    4 => self.random.pick(&more),
-                    _ => self.random.pick(&values),
-                };
+        match self.random.below(24) {
+            0..=9 if len > 0 => {
+                let byte = self.random.below(len);
+                draft.fields[at][byte] = self.other_byte(draft.fields[at][byte]);
             }
-            9..=12 => {
+            10..=14 => {
                 // the record ends in this field
-                let kept = self.random.below(len + 1);
-                draft.fields[at].truncate(kept);
+                draft.fields[at].truncate(self.random.below(len + 1));
                 draft.fields.truncate(at + 1);
             }
-            13 => drop(draft.fields.remove(at)),
-            14 => draft.fields.insert(at, draft.fields[at].clone()),
-            15 if at + 1 < count => draft.fields.swap(at, at + 1),
-            // ids that no longer rise
-            15 if at + 2 < count => draft.fields.swap(at, at + 2),
-            16 => draft.fields[at].reverse(),
-            17 => {
+            15 => drop(draft.fields.remove(at)),
+            16 => draft.fields.insert(at, draft.fields[at].clone()),
+            17 if at + 1 < count => draft.fields.swap(at, at + 1),
+            18 if at + 2 < count => draft.fields.swap(at, at + 2),
+            19 => draft.fields[at].reverse(),
+            20 => {
                 let to = self.random.below(len + 1);
-                let byte = self.random.below(256) as u8;
-                draft.fields[at].insert(to, byte);
+                draft.fields[at].insert(to, self.random.below(256) as u8);
             }
-            18 => draft.kind = self.random.below(8) as u16,
+            21 => draft.kind = self.random.below(8) as u16,
             _ => {
                 for _ in 0..1 + self.random.below(3) {
                     draft.byte(self.random.below(256));
                 }
             }
+        }
+    }
+
+    // What a byte is damaged to: often a value beside a limit.
+    fn other_byte(&mut self, byte: u8) -> u8 {
+        let counts = [0, 1, 2, 3, 4, 5, 7, 8, 9, 39, 40, 41, 199, 200, 201, 255];
+        match self.random.below(7) {
+            0 => self.random.below(256) as u8,
+            1 => byte.wrapping_add(1),
+            2 => byte.wrapping_sub(1),
+            3 => self.random.pick(b"BEVbev"),
+            4 => self.random.pick(b"\x1F\x20\x7E\x7F`az{/09:AZ"),
+            _ => self.random.pick(&counts),
         }
     }
 }

@@ -8,7 +8,7 @@
 //   streams checked FOLDER [PROGRAM..]    runs this implementation and the programs on the streams of a folder, whose lines were
 //                                         worked out by hand
 //
-// Number 7 of the refusals never comes from a stream, since nothing is withdrawn.
+// Refusal 7 never comes from a stream, since a stream withdraws nothing.
 mod catalogue;
 mod draw;
 mod draw_streams;
@@ -23,7 +23,7 @@ use std::sync::Mutex;
 use std::thread;
 
 const THREADS: u64 = 2;
-// Whoever has found a difference keeps it, so that one alone is shown.
+// Held by the thread that shows a difference, so that only one is shown.
 static SHOWN: Mutex<()> = Mutex::new(());
 
 // How many lines there were of each sort.
@@ -64,38 +64,38 @@ impl Counts {
         }
     }
 
+    fn of(&self, sort: &str) -> usize {
+        let found = self.sorts.iter().find(|(name, _)| name == sort);
+        found.map_or(0, |(_, count)| *count)
+    }
+
+    // The counts of some sorts, whose names begin alike.
+    fn each(&self, before: &str, sorts: &[&str]) -> String {
+        let one = |sort: &&str| format!("{sort}: {}", self.of(&format!("{before}{sort}")));
+        sorts.iter().map(one).collect::<Vec<_>>().join(", ")
+    }
+
     // One line. Each sort of answer is named, also one that never came.
     fn line(&self) -> String {
-        let of = |sort: &str| {
-            let found = self.sorts.iter().find(|(name, _)| name == sort);
-            found.map_or(0, |(_, count)| *count)
-        };
-        let each = |sorts: &[&str], before: &str| -> String {
-            let one = |sort: &&str| format!("{sort} {}", of(&format!("{before}{sort}")));
-            sorts.iter().map(one).collect::<Vec<_>>().join(", ")
-        };
-        let refused: Vec<String> = ["1", "2", "3", "4", "5", "6", "8 1", "8 2", "8 3"]
-            .iter()
-            .map(|sort| format!("{} with {sort}", of(&format!("refused {sort}"))))
-            .collect();
-        format!(
-            "{} random streams; entered: {} signatures, {} formats; refused: {}; readings: {}; listed: {}",
-            self.streams,
-            of("signature"),
-            of("format"),
-            refused.join(", "),
-            each(&["positive", "tentative", "negative"], "report "),
-            each(
-                &[
-                    "specific",
-                    "specific mismatch",
-                    "generic",
-                    "generic mismatch",
-                    "tentative"
-                ],
-                ""
+        let refused = ["1", "2", "3", "4", "5", "6", "8 1", "8 2", "8 3"];
+        let statuses = [
+            "specific",
+            "specific mismatch",
+            "generic",
+            "generic mismatch",
+            "tentative",
+        ];
+        let parts = [
+            format!("{} random streams", self.streams),
+            format!("entered {}", self.each("", &["signature", "format"])),
+            format!("refused with {}", self.each("refused ", &refused)),
+            format!(
+                "readings {}",
+                self.each("report ", &["positive", "tentative", "negative"])
             ),
-        )
+            format!("listed {}", self.each("", &statuses)),
+        ];
+        parts.join("; ")
     }
 }
 

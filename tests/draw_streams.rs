@@ -64,8 +64,9 @@ struct Maker {
     // of a hundred records, how many are damaged, and how many have a length that does not fit
     damaged: usize,
     misfits: usize,
-    // whether formats outrank others
-    ranked: bool,
+    // how many signatures a format names, and how many formats it outranks: one of these
+    named: &'static [usize],
+    outranked: &'static [usize],
 }
 
 impl Maker {
@@ -79,7 +80,8 @@ impl Maker {
             ids: random.pick(&[4, 10, 30, 60, 300]),
             damaged: random.pick(&[0, 0, 5, 15, 40]),
             misfits: random.pick(&[0, 0, 0, 0, 0, 0, 2, 8]),
-            ranked: random.pick(&[true, true, false]),
+            named: &[0, 1, 1, 1, 2, 2, 3, 8],
+            outranked: random.pick(&[&[0, 0, 1, 1, 2, 8], &[0, 1, 1, 3], &[0]]),
             random,
         }
     }
@@ -202,14 +204,15 @@ impl Maker {
 
     fn full_of_fragments(&mut self) {
         self.leave_room();
-        let most = self.random.pick(&[1, 3, 8, 8, 8]);
-        // often just full, or short of it by one
-        let counts: Vec<usize> = match self.random.below(3) {
-            0 => vec![8; 12],
-            1 => [&[8; 11][..], &[7]].concat(),
-            _ => (0..100).map(|_| 1 + self.random.below(most)).collect(),
+        let most = self.random.pick(&[1, 3, 8, 8]);
+        // just full, short of it by one, full of signatures too, or as it comes
+        let all: Vec<Vec<usize>> = match self.random.below(5) {
+            0 => vec![vec![8; 4]; 3],
+            1 => vec![vec![8; 4], vec![8, 8, 8, 7], vec![8; 4]],
+            2 => vec![vec![4]; 24],
+            _ => (0..26).map(|_| self.counts(4, most)).collect(),
         };
-        for counts in counts.chunks(4) {
+        for counts in all {
             let texts: Vec<_> = counts.iter().map(|n| self.text_in_parts(*n)).collect();
             // one that is refused behind good sequences must leave nothing in the table
             if self.random.once_in(4) {
@@ -227,9 +230,20 @@ impl Maker {
         self.some(8);
     }
 
+    fn counts(&mut self, len: usize, most: usize) -> Vec<usize> {
+        (0..len).map(|_| 1 + self.random.below(most)).collect()
+    }
+
     fn full_of_formats(&mut self) {
         self.leave_room();
-        self.small_signatures(0, 3);
+        if self.random.once_in(4) {
+            // all formats hit together
+            self.small_signatures(1, 1);
+            self.named = &[1];
+            self.outranked = &[0];
+        } else {
+            self.small_signatures(0, 3);
+        }
         for _ in 0..90 {
             if self.catalogue.formats.len() == 48 {
                 break;
@@ -332,14 +346,38 @@ impl Maker {
         text.into_bytes()
     }
 
-    // Two runs and a gap beside the greatest span.
+    // Two runs and a gap: beside the greatest span, or a great one without upper end.
     fn wide_text(&mut self) -> Vec<u8> {
-        let most = 1015 + self.random.below(12);
-        let least = self.random.pick(&[0, 1, most, most - 3]);
         let lens = [1, 2].map(|n| n + self.random.below(3));
         let [first, last] = lens.map(|n| self.random.run(self.kind, n));
+        let most = 1015 + self.random.below(12);
+        let least = self.random.pick(&[0, 1, most, most - 3]);
         let before = self.random.pick(&["", "", "??", "*", "{2}*"]);
-        format!("{first}{before}{{{least}-{most}}}{last}").into_bytes()
+        let gap = match self.random.below(6) {
+            0 => format!("{{{most}-*}}"),
+            1 => format!("*{{{}}}", self.random.pick(&[1025, 2000, 3000, 9999])),
+            _ => format!("{before}{{{least}-{most}}}"),
+        };
+        format!("{first}{gap}{last}").into_bytes()
+    }
+
+    // Several faults, most of them with number 4.
+    fn faulty_text(&mut self) -> Vec<u8> {
+        let mut text = String::new();
+        for _ in 0..1 + self.random.below(11) {
+            text += &self.random.run(self.kind, 1);
+            let [one, other] = [0, 1].map(|_| self.random.run(self.kind, 1));
+            text += &match self.random.below(8) {
+                0 => self.random.pick(&["{5-4}", "*{7-2}", "{0-0}"]).into(),
+                1 => self.random.pick(&["{1020}", "{0-1022}", "{9999}"]).into(),
+                2 => format!("[{one}:{other}]"),
+                3 => format!("[!{one}:{other}{one}]"),
+                4 if self.random.once_in(4) => "{00001}".into(),
+                _ => "*".into(),
+            };
+        }
+        text += &self.random.run(self.kind, 1);
+        text.into_bytes()
     }
 
     // Things that are no literals, or few.
@@ -383,7 +421,8 @@ impl Maker {
                 self.text_in_parts(count)
             }
             89..=91 => self.wide_text(),
-            92..=95 => self.bare_text(),
+            92 | 93 => self.faulty_text(),
+            94 | 95 => self.bare_text(),
             96..=98 => self.long_text(),
             _ => vec![],
         };
@@ -457,15 +496,10 @@ impl Maker {
         let name = self.name();
         draft.counted(&name);
         let ids = self.catalogue.signatures.iter().map(|s| s.id).collect();
-        let signatures = self.some_of(ids, 65536, &[0, 1, 1, 1, 2, 2, 3, 8]);
+        let signatures = self.some_of(ids, 65536, self.named);
         draft.ids(&signatures);
         let ids = self.catalogue.formats.iter().map(|f| f.id).collect();
-        let limits: &[usize] = if self.ranked {
-            &[0, 0, 1, 1, 2, 8]
-        } else {
-            &[0]
-        };
-        let outranked = self.some_of(ids, id.into(), limits);
+        let outranked = self.some_of(ids, id.into(), self.outranked);
         draft.ids(&outranked);
         let count = match self.random.below(40) {
             0 => 5,
@@ -545,7 +579,17 @@ impl Maker {
             }
             _ => self.aimed_reading(),
         };
-        reading.truncate(MOST_BODY - 1 - label.len());
+        let most = MOST_BODY - 1 - label.len();
+        if self.random.once_in(60) {
+            // among many others, at the front or at the back
+            let before = self.random.below(most);
+            let mut long = self.elements(most);
+            let at = self.random.pick(&[0, before, most]);
+            long.splice(at..at, reading);
+            let from = long.len() - most;
+            reading = long.split_off(self.random.pick(&[0, from]));
+        }
+        reading.truncate(most);
         let packed: Vec<u8> = reading.iter().map(|code| self.packed(*code)).collect();
         draft.counted(&label);
         draft.fields.push(packed);

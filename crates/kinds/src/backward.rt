@@ -15,7 +15,8 @@ pub struct Backward<R> {
 impl<R: Reading> Backward<R> {
     /// A reading, which is handed over, from its last element on.
     pub fn new(forward: R) -> Backward<R>
-        ensures { ⟦<Backward<R> as Reading>⟧.elements result ≡ reverse (R.elements forward) }
+        ensures forward { result.forward ≡ forward }
+        ensures shows { ⟦<Backward<R> as Reading>⟧.elements result ≡ reverse (R.elements forward) }
     {
         Backward { forward }
     }

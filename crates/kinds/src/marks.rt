@@ -19,7 +19,8 @@ pub struct Marks<R> {
 impl<R: Reading<Element = Byte>> Marks<R> {
     /// The marks over a reading, which is handed over.
     pub fn new(bytes: R) -> Marks<R>
-        ensures { ⟦<Marks<R> as Reading>⟧.elements result ≡ map mark_of (R.elements bytes) }
+        ensures bytes { result.bytes ≡ bytes }
+        ensures shows { ⟦<Marks<R> as Reading>⟧.elements result ≡ map mark_of (R.elements bytes) }
     {
         Marks { bytes }
     }

@@ -606,3 +606,10 @@ module _ (front : List Item) (codes : List ℕ) (back : List Item) (from : ℕ) 
       → BestBefore front codes back from until xs p best → best ≡ least_end items from until xs
   best_all items whole p best none h =
       rw whole (least_end_is _ from until xs best (best_least p best h (λ q e l a. absurd (none q l a.stands))))
+
+  -- or sooner: no anchor from p on ends before the best
+  pub best_enough : (items : List Item) → items ≡ front ++ (map literal codes ++ back)
+      → (p b : ℕ) → b ≤ p + length codes
+      → BestBefore front codes back from until xs p (Some b) → Some b ≡ least_end items from until xs
+  best_enough items whole p b enough h =
+      rw whole (least_end_is _ from until xs (Some b) (best_least p (Some b) h (λ q e l a. omega (arith, a.behind.ordered))))

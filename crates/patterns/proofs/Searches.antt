@@ -122,6 +122,10 @@ module _ (items : List Item) (from : ℕ) (until : Option ℕ) (xs : List ℕ) w
   pub least_end_exactly : LeastEnd items from until xs (least_end items from until xs)
   least_end_exactly = least_from (suc (length xs)) 0 (omega arith) (λ _ _. omega arith)
 
+  -- so what the search says holds
+  pub least_end_says : (r : Option ℕ) → least_end items from until xs ≡ r → LeastEnd items from until xs r
+  least_end_says r e = subst (LeastEnd items from until xs) e least_end_exactly
+
   -- there is one least end
   pub least_end_unique : (r r' : Option ℕ) → LeastEnd items from until xs r → LeastEnd items from until xs r' → r ≡ r'
   least_end_unique None None h h' = refl

@@ -1,8 +1,8 @@
 -- Members of a row, by its words.
-use Rattle.std.proofs.Common.{◌≡◌, ℕ, ◌+◌, ◌-◌, ◌*◌, ◌/◌, ◌%◌, ◌^◌, ◌<◌, ◌≤◌, Bool, false, cond, ◌&&◌, ◌||◌, eqb, ltb, leb, List, length, get_or, set, replicate, sym, refl, ap, ◌∙◌, ap₂, ⊎_elim, arith}
+use Rattle.std.proofs.Common.{◌≡◌, ℕ, ◌+◌, ◌-◌, ◌*◌, ◌/◌, ◌%◌, ◌^◌, ◌<◌, ◌≤◌, Bool, true, false, cond, ◌&&◌, ◌||◌, eqb, ltb, leb, List, length, get_or, set, replicate, sym, refl, ap, ◌∙◌, ap₂, ⊎_elim, arith}
 use lib.Bits.{bit_and, bit_or}
 use Rattle.std.proofs.lemmas.List.{get_or-replicate, get_or-set_other, get_or-set_same}
-use Rattle.std.proofs.lemmas.Bool.{cases_eq, cases_lt, cases_order, le-leb, le-ltb, lt-leb, lt-ltb}
+use Rattle.std.proofs.lemmas.Bool.{both_ways, cases_eq, cases_lt, cases_order, le-leb, le-ltb, lt-leb, lt-ltb}
 use Rattle.std.proofs.lemmas.Bool.Decides.{nat_tests}
 use Rattle.rows.specs.declared.Row.{Row}
 use Rattle.rows.specs.Rows.{member, moved}
@@ -24,6 +24,13 @@ pub by_words : (row : Row) (f : ℕ → Bool) → ((j : ℕ) → j < 1024 → bi
     → ((j : ℕ) → 1024 ≤ j → f j ≡ false) → (j : ℕ) → member row j ≡ f j
 by_words row f below past j =
     ⊎_elim (λ h. member_bit row j h ∙ below j h) (λ h. member_past row j h ∙ sym (past j h)) (cases_lt j 1024)
+
+-- the same, where `f` may say more from 1,024 on
+pub by_words_below : (row : Row) (f : ℕ → Bool) → ((j : ℕ) → j < 1024 → bit (get_or row.words (j / 64) 0) (j % 64) ≡ f j)
+    → (j : ℕ) → member row j ≡ (ltb j 1024 && f j)
+by_words_below row f below =
+    by_words row (λ j. ltb j 1024 && f j) (λ j h. below j h ∙ ap (λ t. t && f j) (sym (lt-ltb j 1024 h)))
+    (λ j h. ap (λ t. t && f j) (le-ltb j 1024 h))
 
 -- rows with the same words have the same members
 pub same_members : (a b : Row) → a.words ≡ b.words → (j : ℕ) → member a j ≡ member b j
@@ -172,3 +179,7 @@ pub member_all : (row : Row) (last j : ℕ) → row.used ≤ last / 64 → membe
 member_all row last j h =
     ⊎_elim (λ l. ap (λ t. t && member row j) (sym (le-leb j last (omega arith)))) (λ l. let m = member_unused row j l in grind (arith, nat_tests))
     (cases_lt (j / 64) row.used)
+
+-- a member is below 1,024
+pub member_below : (row : Row) (k : ℕ) → member row k ≡ true → k < 1024
+member_below row k e = ⊎_elim (λ h. h) (λ h. absurd (both_ways (member row k) (member_past row k h) e)) (cases_lt k 1024)

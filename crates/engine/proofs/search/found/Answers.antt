@@ -24,7 +24,7 @@ returns g c holds =
             | inr is ↦ ap (λ st. is_some (end_in s st xs)) (starts ∙ ap starts_of is) ∙ anywhere_decides s xs is
           ]
       | in-Back w ↦
-          let codes = ap (map code) w.new-backward.ensures ∙ map_reverse code elements in
+          let codes = ap (map code) w.new-backward.ensures.shows ∙ map_reverse code elements in
           ap is_some (w.end-is ∙ w.last_end-end-in-Back.ensures holds)
           ∙ (λ i. is_some (end_in s ((starts ∙ ap starts_of w.in-Back.is) i) (codes i)))
           ∙ back_decides s w.in-Back.least w.in-Back.most (map code elements) w.in-Back.is

@@ -57,7 +57,8 @@ pub fn read_elements<K: Kind>(text: &[u8], list: &mut Vec<K>) -> Result<(), Spel
     ensures memory { result ≡ Err Memory →
         vec_capacity list.old < vec_len list.old + length text.now / 2 }
 {
-    list.try_reserve(text.len() / 2)?;
+    // Where there is no room for all, the pushes tell a fault that comes before it runs out.
+    let _ = list.try_reserve(text.len() / 2);
     let before = list.len();
     let read = push_elements(text, list);
     if read.is_err() {
@@ -66,14 +67,15 @@ pub fn read_elements<K: Kind>(text: &[u8], list: &mut Vec<K>) -> Result<(), Spel
     read
 }
 
-// Pushes the elements that the pairs of a text name, up to the first fault, into room that the list
-// has.
+// Pushes the elements that the pairs of a text name, up to the first fault, or until there is no
+// memory.
 fn push_elements<K: Kind>(text: &[u8], list: &mut Vec<K>) -> Result<(), SpellingFault>
-    requires { vec_len list.old + length text.now / 2 ≤ vec_capacity list.old }
     ensures ok { OnOk result
         (after list.old.items (spelled K.alphabet text.now) ≡ Ok list.new.items) }
     ensures kept { take (vec_len list.old) list.new.items ≡ list.old.items }
-    ensures fault { IfErr result (λ e. spelled K.alphabet text.now ≡ Err e) }
+    ensures fault { IfErr result (λ e. e ≢ Memory → spelled K.alphabet text.now ≡ Err e) }
+    ensures memory { result ≡ Err Memory →
+        vec_capacity list.old < vec_len list.old + length text.now / 2 }
 {
     for (number, pair) in text.chunks(2).enumerate() {
         let [first, second, ..] = pair else {

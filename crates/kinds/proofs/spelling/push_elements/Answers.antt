@@ -14,15 +14,16 @@ loop-number-preserved g c =
     let steps = c.in-Some.ensures.steps in
     let pushed = chosen _ _ _ _ c.push.ensures.items (sym c.map_err.ensures.variant ∙ ap is_ok c.in_ok-map_err.was) in
     let named : a.named (get_or c.in-Some.pair.now 0 0) (get_or c.in-Some.pair.now 1 0) ≡ Some c.in_ok-x.x = sym c.named.ensures ∙ c.ok_or.ensures.ok_part ∙ ap result_ok c.in_ok-x.was in
+    let one_more : vec_len c.push.new.self ≡ vec_len c.loop-number.list + 1 = chosen _ _ _ _ c.push.ensures.len (sym c.map_err.ensures.variant ∙ ap is_ok c.in_ok-map_err.was) in
     let on : 2 * c.next.new.self.count ≡ place + 2 = omega (arith, steps.1) in
     let step = spelled_more a c.loop-number.list.items place c.next.new.self.iter.rest.now c.in-Some.pair.now c.in_ok-x.x (omega arith) named in
     record {
       by_two = cc;
       in_text = omega (arith, ap length steps.0.1.0, length-append {A = ℕ});
       read = cc;
-      kept = kept_more _ _ _ _ c.in_ok-x.x pushed (omega (arith, so_far.longer, c.loop-number.list.ok.0)) so_far.kept;
-      longer = omega (arith, so_far.longer, c.push.ensures.lower_bound);
-      room = omega (arith, so_far.room, c.push.ensures.upper_bound, c.push.ensures.capacity, ap length steps.0.1.0, length-append {A = ℕ});
+      kept = kept_more _ _ _ _ c.in_ok-x.x pushed (omega (arith, so_far.counted, c.loop-number.list.ok.0)) so_far.kept;
+      counted = omega (arith, so_far.counted, on, one_more);
+      grown = omega (arith, so_far.grown, c.push.ensures.capacity);
     }
 
 pub loop-number-init : goal.loop-number-init
@@ -36,6 +37,6 @@ loop-number-init g c =
       in_text = grind (arith, common_steps);
       read = ap₂ (λ n left. after old.items (spelled_from g.K.Kind.alphabet n left)) (sym front) (sym whole);
       kept = take_all (vec_len old) old.items (omega (arith, old.ok.0));
-      longer = grind (arith, common_steps);
-      room = grind (arith, common_steps);
+      counted = grind (arith, common_steps);
+      grown = omega arith;
     }

@@ -1,4 +1,4 @@
--- What the pairs so far and those that are left give is what the whole text gives, and there is room for the rest.
+-- What the pairs so far and those that are left give is what the whole text gives; the list has one element more for each pair.
 use Rattle.std.proofs.Common.{◌≡◌, ◌≤◌, ◌+◌, ◌*◌, length, take, vec_len}
 use Rattle.std.specs.Vec.{vec_capacity}
 use Rattle.kinds.specs.Spelling.{after, spelled, spelled_from}
@@ -14,6 +14,6 @@ invariant-loop-number g l =
       in_text : place + length left.rest.now ≡ length l.text;
       read : after l.fn.list.items (spelled a l.text) ≡ after l.list.items (spelled_from a place left.rest.now);
       kept : take (vec_len l.fn.list) l.list.items ≡ l.fn.list.items;
-      longer : vec_len l.fn.list ≤ vec_len l.list;
-      room : 2 * vec_len l.list + length left.rest.now ≤ 2 * vec_capacity l.list + 1;
+      counted : 2 * vec_len l.list ≡ 2 * vec_len l.fn.list + place;
+      grown : vec_capacity l.fn.list ≤ vec_capacity l.list;
     }

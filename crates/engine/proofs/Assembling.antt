@@ -2,7 +2,7 @@
 use Rattle.std.proofs.Common.{◌≡◌, ℕ, ◌+◌, ◌-◌, ◌<◌, ◌≤◌, List, [], ◌∷◌, ◌++◌, length, take, drop, Some, None, Option, sym, refl, ap, ◌∙◌, subst, arith, length-append, length-drop, length-take}
 use lib.ListN.{length-map}
 use Rattle.std.proofs.lemmas.List.{append_assoc, drop-drop, take-map, drop-map, take_rest}
-use Rattle.arrayvec.specs.ArrayVec.{ArrayVec}
+use Rattle.engine.specs.AnchorCodes.{Cells}
 use Rattle.patterns.specs.Fragments as spec
 use Rattle.patterns.specs.Fragments.{Anchor, anchor, bodies, cut_from, sum_least, lead, shift}
 use Rattle.patterns.specs.Grammar.{Placed}
@@ -61,7 +61,7 @@ module _ (codes : List ℕ) (runs : List Run) (ps : List PlacedPart) where
     anchor_within = let h = found.literals.inside in let long = body_length in omega arith
 
     -- a fragment that is put together from its numbers
-    pub assembled : (gap n : ℕ) (stored : ArrayVec ℕ) (table : List ℕ)
+    pub assembled : (gap n : ℕ) (stored : Cells) (table : List ℕ)
         → n ≡ sum_least (part_items codes runs (take start body))
         → stored.items ≡ part_codes (take (start + len - start) (drop start body))
         → ShiftsOf table stored.items

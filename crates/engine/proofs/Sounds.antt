@@ -23,6 +23,7 @@ use Rattle.patterns.specs.Limits.{refusal}
 use Rattle.engine.specs.Reading.{held}
 use Rattle.engine.specs.Said.{said, parts, HoldsAt, Searches}
 use Rattle.engine.specs.Searched.{Accepted, HoldsIf}
+use Rattle.engine.specs.Sequences.{Orients}
 use Rattle.patterns.specs.Sequences.{outcome}
 use Rattle.faults.specs.declared.fault.Cause.{Cause}
 use Rattle.faults.specs.declared.fault.Cause.TheVariants.{Grammar, Limit, NoLiteral}
@@ -66,6 +67,14 @@ compiled_accepted a t r qs items mirror read order mirrors short =
       mirrors = mirrors;
       few = omega arith;
     }
+
+-- and it is the text's items in the order of their search, with the mirrored ones
+pub text_oriented : {E : Type 0} (a : Alphabet E) (t : List ℕ) (r : Reference) (qs items mirror : List Placed)
+    → outcome a t ≡ Ok qs → items ≡ oriented r qs → mirror ≡ mirrored_placed items → length t ≤ 200 → Orients a t r items mirror
+text_oriented a t r qs items mirror read order mirrors short = record {
+  read = read ∙ ap Ok (sym (ap (oriented r) order ∙ oriented_twice r qs));
+  accepted = compiled_accepted a t r qs items mirror read order mirrors short;
+}
 
 -- What the search relies on.
 

@@ -1,3 +1,4 @@
+pub mod AnchorCodes
 pub mod Codes
 pub mod Compiled
 pub mod Compiling

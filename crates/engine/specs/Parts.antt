@@ -42,6 +42,12 @@ HasPart p part = part_within p.codes.items p.runs.items part ≡ true
 abbrev pub HasParts : Pattern → List PlacedPart → Type 0
 HasParts p parts = all_parts_within p.codes.items p.runs.items parts ≡ true
 
+-- a pattern has no codes, no runs and no parts
+pub record IsEmpty (p : Pattern) : Type 0 where
+  pub codes : p.codes.items ≡ []
+  pub runs : p.runs.items ≡ []
+  pub parts : p.parts.items ≡ []
+
 -- one code more, and the same runs and items
 pub record CodePushed (before : Pattern) (code : ℕ) (after : Pattern) : Type 0 where
   pub codes : after.codes.items ≡ before.codes.items ++ code ∷ []

@@ -3,9 +3,11 @@ use Rattle.std.specs.Prelude.{◌≡◌, ℕ, List, Ok, Err, Option, Result}
 use Rattle.faults.specs.declared.fault.Fault.{Fault}
 use Rattle.kinds.specs.Alphabet.{Alphabet}
 use Rattle.patterns.specs.Fragments.{oriented}
+use Rattle.patterns.specs.Grammar.{Placed}
 use Rattle.patterns.specs.Sequences.{Said, outcome, parts_said}
+use Rattle.patterns.specs.declared.reference.Reference.{Reference}
 use Rattle.engine.specs.Reading.{held}
-use Rattle.engine.specs.Searched.{HoldsEach}
+use Rattle.engine.specs.Searched.{Accepted, HoldsEach}
 use Rattle.engine.specs.declared.fragment.Fragment.{Fragment}
 use Rattle.engine.specs.declared.pattern.Pattern.{Pattern}
 
@@ -17,6 +19,11 @@ Refused a t sequence f = (outcome a t ≡ Err (f.cause, f.place)) × (f.sequence
 abbrev pub Checked : {E : Type 0} → Alphabet E → List ℕ → ℕ → Result Pattern Fault → Type 0
 Checked a t sequence (Ok p) = outcome a t ≡ Ok (held p)
 Checked a t sequence (Err f) = Refused a t sequence f
+
+-- A text is read and not refused, and its items stand in the order of their search, with the mirrored ones.
+pub record Orients {E : Type 0} (a : Alphabet E) (t : List ℕ) (r : Reference) (items mirror : List Placed) : Type 0 where
+  pub read : outcome a t ≡ Ok (oriented r items)
+  pub accepted : Accepted r items mirror
 
 -- the compiled fragments, by their numbers from 0 on, hold the fragments of a sequence
 abbrev pub HoldsSaid : Said → (ℕ → Option Fragment) → Type 0

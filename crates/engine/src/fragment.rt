@@ -1,5 +1,5 @@
 //! Compiles a pattern: its fragments, their anchors, and the numbers of their search.
-ghost use Rattle.std.specs.Prelude.{◌≡◌, ◌+◌, ◌-◌, ◌≤◌, None, length, take, drop, if◌then◌else◌, slice_index};
+ghost use Rattle.std.specs.Prelude.{◌≡◌, ◌+◌, ◌-◌, ◌≤◌, None, [], length, take, drop, if◌then◌else◌, slice_index};
 ghost use Rattle.engine.specs.Compiled.{literal_codes as literals_of, Holds, Hold};
 ghost use Rattle.engine.specs.Compiling.{part_codes, replaces, AnchorsParts, CutsParts};
 ghost use Rattle.engine.specs.Codes.{ShiftsOf};
@@ -7,6 +7,7 @@ ghost use Rattle.engine.specs.Reading.{held};
 ghost use Rattle.engine.specs.Parts.{items_in, HasParts};
 ghost use Rattle.patterns.specs.Fragments.{bodies, limit_place, sum_least, fragments as fragments_from};
 
+use crate::anchor_codes::AnchorCodes;
 use crate::limits::MOST_FRAGMENTS;
 use crate::pattern::{MOST_CODES, MOST_PARTS, Part, Pattern, PlacedPart};
 use arrayvec::ArrayVec;
@@ -17,14 +18,14 @@ pub const INDICES: usize = 256;
 
 /// A compiled fragment: where its items stand in its pattern, its anchor, and the numbers of its
 /// search.
-#[derive(Drop, Default)]
+#[derive(Clone, Copy, Default)]
 pub struct Fragment {
     // The items from `first` to before `end`.
     pub(crate) first: u8,
     pub(crate) end: u8,
     // The anchor: the literals from `anchor` on, and their codes.
     pub(crate) anchor: u8,
-    pub(crate) codes: ArrayVec<u16, MOST_CODES>,
+    pub(crate) codes: AnchorCodes,
     // The least number of elements before the fragment: from the one before it on, or from where
     // the search begins.
     pub(crate) break_before: u32,
@@ -158,11 +159,11 @@ fn cut_first(parts: &[PlacedPart]) -> FirstCut
 }
 
 // The codes of the literals among parts.
-fn literal_codes(parts: &[PlacedPart]) -> ArrayVec<u16, MOST_CODES>
+fn literal_codes(parts: &[PlacedPart]) -> AnchorCodes
     requires { length (part_codes parts.now) ≤ MOST_CODES }
     ensures { result.items ≡ part_codes parts.now }
 {
-    let mut codes = ArrayVec::new();
+    let mut codes = AnchorCodes::new();
     for placed in parts {
         if let Part::Literal(code) = placed.part {
             codes.push(code);
@@ -218,19 +219,21 @@ impl Pattern {
         }
     }
 
-    /// The fragments of a pattern that stands in the order of its search (mirrored for a sequence
-    /// from the back), compiled.
+    /// Puts the fragments of a pattern that stands in the order of its search (mirrored for a
+    /// sequence from the back), compiled, into an empty list.
     pub(crate) fn fragments(
         &self,
         reference: Reference,
         lo: u16,
-    ) -> ArrayVec<Fragment, MOST_FRAGMENTS>
+        fragments: &mut ArrayVec<Fragment, MOST_FRAGMENTS>,
+    )
         requires within { limit_place (held self.now) ≡ None }
         requires few { length (literals_of (bodies (held self.now))) ≤ MOST_CODES }
-        ensures { Hold reference (held self.now) result.items (fragments_from lo (held self.now)) }
+        requires empty { fragments.old.items ≡ [] }
+        ensures { Hold reference (held self.now) fragments.new.items
+            (fragments_from lo (held self.now)) }
     {
         let parts = self.parts.as_slice();
-        let mut fragments = ArrayVec::new();
         let mut first = 0;
         let mut break_before = u32::from(lo);
         // From one cut to the next: how many parts that passes is known only when it is made.
@@ -238,7 +241,7 @@ impl Pattern {
             let cut = cut_first(&parts[first..]);
             fragments.push(self.fragment_at(reference, first, first + cut.end, break_before));
             let Some((start, between)) = cut.next else {
-                return fragments;
+                return;
             };
             first += start;
             break_before = between;

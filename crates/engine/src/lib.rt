@@ -1,6 +1,7 @@
 //! The engine: it reads pattern texts, compiles them, and searches readings.
 #![tactic(auto)]
 
+mod anchor_codes;
 mod find;
 mod fragment;
 mod lent;
@@ -22,6 +23,6 @@ pub mod theorems;
 pub use faults::{Cause, Fault, FaultLine};
 pub use fragment::{Fragment, INDICES};
 pub use lexer::{Gap, Lexer, Position, RunText, RunsText, Stop, Token};
-pub use patterns::{PatternText, Reference, TooLong};
+pub use patterns::{MOST_CHARACTERS, PatternText, Reference, TooLong};
 pub use sequence::Sequence;
 pub use table::{InTable, SLOTS, Table};

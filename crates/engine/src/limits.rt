@@ -1,10 +1,10 @@
 //! Refuses patterns that are beyond the limits or have a fragment without a literal.
-ghost use Rattle.std.specs.Prelude.{◌≡◌, ◌<◌};
+ghost use Rattle.std.specs.Prelude.{◌≡◌, ◌<◌, length};
 ghost use Rattle.patterns.specs.Limits.{refusal};
 ghost use Rattle.engine.specs.Reading.{held};
 ghost use Rattle.engine.specs.Parts.{item_in, placed_in, HasPart};
 ghost use Rattle.engine.specs.Tallies.{single, joined, initial, closed, with_gap, with_thing, with_item, tallied};
-ghost use Rattle.patterns.specs.Fragments.{before, wrong};
+ghost use Rattle.patterns.specs.Fragments.{before, fragments, wrong};
 
 use crate::pattern::{Part, Pattern, PlacedPart};
 use crate::smaller::smaller;
@@ -21,7 +21,7 @@ pub(crate) const LONGEST_SPAN: u32 = 1024;
 // whether a literal is among them, and whether a gap without upper end is.
 #[derive(Clone, Copy)]
 struct Section {
-    start: Option<u8>,
+    start: Option<u16>,
     span: u32,
     literal: bool,
     endless: bool,
@@ -35,8 +35,8 @@ struct Tally {
     ended: u8,
     body: Section,
     spacing: Section,
-    limit: Option<u8>,
-    bare: Option<u8>,
+    limit: Option<u16>,
+    bare: Option<u16>,
 }
 
 // Whether one run comes before another of its length, compared from the first element on or from
@@ -70,6 +70,13 @@ impl Pattern {
             } => most < least,
             _ => false,
         }
+    }
+
+    /// How many fragments it has.
+    pub(crate) fn fragment_count(&self) -> usize
+        ensures { result ≡ length (fragments 0 (held self.now)) }
+    {
+        usize::from(self.tally().ended)
     }
 
     // What is kept of all items, the last fragment ended.
@@ -200,7 +207,7 @@ impl Tally {
 impl Pattern {
     /// Why and where a pattern of the grammar is refused: at the smallest place beyond a limit,
     /// else at the first fragment without a literal. None where it is not refused.
-    pub(crate) fn refusal(&self) -> Option<(Cause, u8)>
+    pub(crate) fn refusal(&self) -> Option<(Cause, u16)>
         ensures { result ≡ refusal (held self.now) }
     {
         let tally = self.tally();

@@ -1,5 +1,5 @@
 //! Patterns in the order of a search from the back.
-ghost use Rattle.std.specs.Prelude.{◌≡◌, ℕ, map, reverse};
+ghost use Rattle.std.specs.Prelude.{◌≡◌, ℕ, [], map, reverse};
 ghost use Rattle.engine.specs.Reading.{held};
 ghost use Rattle.engine.specs.Turned.{turned_part, turned_placed, turned_run};
 ghost use Rattle.patterns.specs.Fragments.{mirrored_placed};
@@ -74,40 +74,44 @@ impl Turn for PlacedPart {
     }
 }
 
-// Each of a list turned.
-fn all_turned<T: Turn + Default, const N: usize>(list: &ArrayVec<T, N>, total: u8) -> ArrayVec<T, N>
-    ensures { result.items ≡ map (T.turned_in total) list.now.items }
+// Turns each of a list into an empty one.
+fn turn_all<T: Turn + Drop, const N: usize>(
+    list: &ArrayVec<T, N>,
+    total: u8,
+    turned: &mut ArrayVec<T, N>,
+)
+    requires { turned.old.items ≡ [] }
+    ensures { turned.new.items ≡ map (T.turned_in total) list.now.items }
 {
-    let mut turned = ArrayVec::new();
     for x in list.as_slice() {
         turned.push(x.turned(total));
     }
-    turned
 }
 
-// A list from its last element to its first.
-fn reversed<T: Copy + Default, const N: usize>(list: &ArrayVec<T, N>) -> ArrayVec<T, N>
-    ensures { result.items ≡ reverse list.now.items }
+// Copies a list into an empty one, from its last element to its first.
+fn reverse_all<T: Copy + Drop, const N: usize>(list: &ArrayVec<T, N>, reversed: &mut ArrayVec<T, N>)
+    requires { reversed.old.items ≡ [] }
+    ensures { reversed.new.items ≡ reverse list.now.items }
 {
-    let mut reversed = ArrayVec::new();
     for x in list.as_slice() {
         reversed.push(*x);
     }
     reversed.reverse();
-    reversed
 }
 
 impl Pattern {
-    /// The mirrored pattern: items in reverse order, the runs of each reversed and compared from
-    /// the other end.
-    pub(crate) fn mirrored(&self) -> Pattern
-        ensures { held result ≡ mirrored_placed (held self.now) }
+    ghost use Rattle.engine.specs.Parts.{IsEmpty};
+
+    /// Puts the items of a pattern into an empty one, mirrored: in reverse order, the runs of each
+    /// reversed and compared from the other end.
+    pub(crate) fn mirror(&mut self, of: &Pattern)
+        requires { IsEmpty self.old }
+        ensures { held self.new ≡ mirrored_placed (held of.now) }
     {
-        let total = self.codes.len() as u8;
-        Pattern {
-            codes: reversed(&self.codes),
-            runs: all_turned(&self.runs, total),
-            parts: all_turned(&reversed(&self.parts), total),
-        }
+        let total = of.codes.len() as u8;
+        reverse_all(&of.codes, &mut self.codes);
+        turn_all(&of.runs, total, &mut self.runs);
+        turn_all(&of.parts, total, &mut self.parts);
+        self.parts.reverse();
     }
 }

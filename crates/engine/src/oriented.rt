@@ -1,4 +1,6 @@
 //! A pattern in the order of its search.
+ghost use Rattle.std.specs.Prelude.{MatchResult};
+ghost use Rattle.engine.specs.Parts.{IsEmpty};
 ghost use Rattle.engine.specs.Reading.{held};
 ghost use Rattle.engine.specs.Searched.{Accepted};
 
@@ -11,25 +13,30 @@ use patterns::{PatternText, Reference};
 /// A pattern in the order of its search: mirrored for a sequence from the back.
 #[derive(Drop)]
 pub(crate) struct Oriented {
-    pub(crate) reference: Reference,
     pub(crate) pattern: Pattern,
     // The pattern mirrored, to look back from an anchor.
     pub(crate) mirror: Pattern,
+    pub(crate) reference: Reference,
     ghost accepted: { ∥ Accepted reference (held pattern) (held mirror) ∥₁ },
 }
 
 impl Pattern {
-    ghost use Rattle.std.specs.Prelude.{◌≡◌};
-    ghost use Rattle.engine.specs.Sequences.{Checked};
-    ghost use Rattle.patterns.specs.Fragments.{oriented};
+    ghost use Rattle.engine.specs.Sequences.{Checked, Refused, Orients};
 
-    // A text's items, or its refusal.
-    fn of_text<K: Kind>(sequence: u8, text: PatternText) -> Result<Pattern, Fault>
-        ensures { Checked K.alphabet text.entry.characters.now sequence result }
+    /// Puts a text's items into an empty pattern, or refuses the text.
+    pub(crate) fn read_text<K: Kind>(
+        &mut self,
+        sequence: u8,
+        text: PatternText,
+    ) -> Result<(), Fault>
+        requires { IsEmpty self.old }
+        ensures { let t = text.entry.characters.now in
+            MatchResult result (λ _. Checked K.alphabet t sequence (Ok self.new))
+            (λ f. Checked K.alphabet t sequence (Err f)) }
     {
-        let pattern = read::<K>(sequence, text)?;
-        match pattern.refusal() {
-            None => Ok(pattern),
+        read::<K>(sequence, text, self)?;
+        match self.refusal() {
+            None => Ok(()),
             Some((cause, place)) => Err(Fault {
                 cause,
                 sequence,
@@ -38,37 +45,32 @@ impl Pattern {
         }
     }
 
-    // The pattern in the order of its search.
-    fn in_order(self, reference: Reference) -> Pattern
-        ensures { held result ≡ oriented reference (held self) }
-    {
-        match reference {
-            Reference::Front { .. } | Reference::Anywhere => self,
-            Reference::Back { .. } => self.mirrored(),
-        }
-    }
-}
-
-impl Oriented {
-    ghost use Rattle.std.specs.Prelude.{◌≡◌};
-    ghost use Rattle.patterns.specs.Sequences.{compiled};
-    ghost use Rattle.engine.specs.Said.{said_if};
-
-    // A text's items in the order of their search, or the text's refusal.
-    pub(crate) fn of_text<K: Kind>(
+    /// Puts a text's items into an empty pattern, in the order of their search, and into another
+    /// one mirrored, or refuses the text.
+    pub(crate) fn read_oriented<K: Kind>(
+        &mut self,
+        mirror: &mut Pattern,
         sequence: u8,
         reference: Reference,
         text: PatternText,
-    ) -> Result<Oriented, Fault>
-        ensures { said_if result
-            ≡ compiled K.alphabet sequence reference text.entry.characters.now }
+    ) -> Result<(), Fault>
+        requires pattern { IsEmpty self.old }
+        requires mirror { IsEmpty mirror.old }
+        ensures { let t = text.entry.characters.now in
+            MatchResult result
+            (λ _. Orients K.alphabet t reference (held self.new) (held mirror.new))
+            (λ f. Refused K.alphabet t sequence f) }
     {
-        let pattern = Pattern::of_text::<K>(sequence, text)?.in_order(reference);
-        let mirror = pattern.mirrored();
-        Ok(Oriented {
-            reference,
-            pattern,
-            mirror,
-        })
+        match reference {
+            Reference::Front { .. } | Reference::Anywhere => {
+                self.read_text::<K>(sequence, text)?;
+                mirror.mirror(self);
+            }
+            Reference::Back { .. } => {
+                mirror.read_text::<K>(sequence, text)?;
+                self.mirror(mirror);
+            }
+        }
+        Ok(())
     }
 }

@@ -24,10 +24,9 @@ pub(crate) struct Run {
 
 /// An item of a pattern. Its runs stand in the pattern's list of codes; a group has the runs from
 /// `first` on, `count` of them.
-#[derive(Clone, Copy, Default)]
+#[derive(Clone, Copy)]
 pub(crate) enum Part {
     Literal(u16),
-    #[default]
     Any,
     Group {
         first: u8,
@@ -47,10 +46,18 @@ pub(crate) enum Part {
     },
 }
 
+// What an unused place of a list holds. Its bytes are all 0, so that a list is made by one fill.
+impl Default for Part {
+    fn default() -> Part {
+        Part::Literal(0)
+    }
+}
+
 /// An item with the place in the text where it begins.
 #[derive(Clone, Copy, Default)]
 pub(crate) struct PlacedPart {
-    pub(crate) place: u8,
+    // Of 16 bits, though 8 hold it: no byte is left unused before the part, which one fill needs.
+    pub(crate) place: u16,
     pub(crate) part: Part,
 }
 
@@ -89,14 +96,12 @@ pub(crate) struct Pattern {
 // Runs and parts are copied out of a pattern, so that it has them is required here: a type that
 // says so would have to lend the pattern with each.
 impl Pattern {
-    ghost use Rattle.engine.specs.Parts.{run_in, item_in, CodePushed, HasRun, HasRuns, HasPart, PartPushed, RunPushed};
+    ghost use Rattle.engine.specs.Parts.{run_in, item_in, CodePushed, HasRun, HasRuns, HasPart, IsEmpty, PartPushed, RunPushed};
     ghost use Rattle.engine.specs.Reading.{held};
 
     /// A pattern with no items.
     pub(crate) fn new() -> Pattern
-        ensures codes { result.codes.items ≡ [] }
-        ensures runs { result.runs.items ≡ [] }
-        ensures items { held result ≡ [] }
+        ensures { IsEmpty result }
     {
         Pattern {
             codes: ArrayVec::new(),

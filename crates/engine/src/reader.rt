@@ -1,7 +1,7 @@
 //! Reads a pattern text into its items.
-ghost use Rattle.std.specs.Prelude.{◌≡◌, ◌+◌, ◌*◌, ◌<◌, ◌≤◌, ◌++◌, length};
+ghost use Rattle.std.specs.Prelude.{◌≡◌, ◌+◌, ◌*◌, ◌<◌, ◌≤◌, ◌++◌, length, MatchResult};
 ghost use Rattle.lexer.specs.Meanings.{items_at, literals_at, runs_in, run_count};
-ghost use Rattle.engine.specs.Parts.{run_in, item_in, HasPart, HasRun, PartPushed};
+ghost use Rattle.engine.specs.Parts.{run_in, item_in, HasPart, HasRun, IsEmpty, PartPushed};
 ghost use Rattle.engine.specs.Reading.{held, Read};
 ghost use Rattle.lexer.specs.Tokens.{between_bars, codes_in, lexeme_in, pairs, written};
 ghost use Rattle.patterns.specs.Patterns as item;
@@ -82,7 +82,7 @@ impl Pattern {
         requires within { HasPart self.old part }
         ensures { PartPushed self.old (record { place = place; part = part }) self.new }
     {
-        let place = place as u8;
+        let place = place as u16;
         self.push_part(PlacedPart { place, part });
     }
 
@@ -145,17 +145,24 @@ fn stopped(sequence: u8, stop: Stop) -> Fault
     }
 }
 
-/// Reads a pattern text into its items. The number of its sequence is for a refusal alone.
-pub(crate) fn read<K: Kind>(sequence: u8, text: PatternText) -> Result<Pattern, Fault>
-    ensures { Read K.alphabet text.entry.characters.now sequence result }
+/// Reads the items of a pattern text into a pattern. The number of its sequence is for a refusal
+/// alone.
+pub(crate) fn read<K: Kind>(
+    sequence: u8,
+    text: PatternText,
+    pattern: &mut Pattern,
+) -> Result<(), Fault>
+    requires { IsEmpty pattern.old }
+    ensures { let t = text.entry.characters.now in
+        MatchResult result (λ _. Read K.alphabet t sequence (Ok pattern.new))
+        (λ f. Read K.alphabet t sequence (Err f)) }
 {
-    let mut pattern = Pattern::new();
     let mut lexer = Lexer::new(text.characters);
     loop {
         let place = lexer.place();
         match lexer.next::<K>() {
             Ok(Some(token)) => pattern.push_token::<K>(place, token),
-            Ok(None) => return Ok(pattern),
+            Ok(None) => return Ok(()),
             Err(stop) => return Err(stopped(sequence, stop)),
         }
     }

@@ -5,6 +5,7 @@ ghost use Rattle.patterns.specs.Codes.{codes_of};
 use crate::fragment::Fragment;
 use crate::limits::MOST_FRAGMENTS;
 use crate::oriented::Oriented;
+use crate::pattern::Pattern;
 use crate::search::{Fragments, found, numbers};
 use arrayvec::ArrayVec;
 use faults::Fault;
@@ -51,7 +52,7 @@ impl Fragments for Own<'_> {
 }
 
 impl<K: Kind> Sequence<K> {
-    ghost use Rattle.patterns.specs.Sequences.{hits_in, PlacementIn, compiled, parts_said, shown};
+    ghost use Rattle.patterns.specs.Sequences.{hits_in, PlacementIn, compiled, counted, parts_said, shown};
 
     /// Compiles a pattern text for its search, or refuses it (docs/PATTERNS.md, "Refusals"). The
     /// number of the sequence, from 1, goes into the refusal alone.
@@ -62,14 +63,30 @@ impl<K: Kind> Sequence<K> {
     ) -> Result<Sequence<K>, Fault>
         ensures { result ≡ compiled K.alphabet number reference text.entry.characters.now }
     {
-        let oriented = Oriented::of_text::<K>(number, reference, text)?;
-        let least = reference.least_offset();
-        let fragments = oriented.pattern.fragments(reference, least);
+        let mut pattern = Pattern::new();
+        let mut mirror = Pattern::new();
+        let mut fragments = ArrayVec::new();
+        pattern.read_oriented::<K>(&mut mirror, number, reference, text)?;
+        pattern.fragments(reference, reference.least_offset(), &mut fragments);
         Ok(Sequence {
-            oriented,
+            oriented: Oriented {
+                reference,
+                pattern,
+                mirror,
+            },
             fragments,
             kind: PhantomData,
         })
+    }
+
+    /// How many fragments a pattern text has, or its refusal: what a sequence compiled of it has,
+    /// or why there is none. It is less work than to compile one.
+    pub fn count_fragments(number: u8, text: PatternText) -> Result<usize, Fault>
+        ensures { result ≡ counted K.alphabet number text.entry.characters.now }
+    {
+        let mut pattern = Pattern::new();
+        pattern.read_text::<K>(number, text)?;
+        Ok(pattern.fragment_count())
     }
 
     /// How many fragments the sequence has, at most eight.

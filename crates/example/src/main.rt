@@ -32,6 +32,11 @@ mod tests {
         assert_eq!(rt; table.free_count(), 94);
         assert!(rt; placed.hits(&table, &Bytes::new(b"%..P.F")));
         assert!(rt; !placed.hits(&table, &Bytes::new(b"%..P...F")));
+        // A fragment is copied out of its slot into another one.
+        let fragment = *table.get(0).ok_or("no fragment")?;
+        table.set(2, fragment);
+        assert_eq!(rt; table.free_count(), 93);
+        table.clear(2);
         placed.clear(&mut table);
         assert_eq!(rt; table.free_count(), 96);
         Ok(())

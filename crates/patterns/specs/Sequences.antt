@@ -12,6 +12,7 @@ use Rattle.patterns.specs.Limits.{refusal}
 use Rattle.patterns.specs.Patterns.{hits, least_offset, Placement}
 use Rattle.patterns.specs.Reader.{items_of}
 use Rattle.patterns.specs.declared.reference.Reference.{Reference}
+use Rattle.patterns.specs.declared.reference.Reference.TheVariants.{Anywhere}
 
 -- A sequence: where it is looked for, and the items of its text.
 pub record Said : Type 0 where
@@ -45,6 +46,11 @@ PlacementIn s xs = Placement s.reference (bodies s.items) xs
 -- the fragments of a sequence, numbered in the order of its search
 abbrev pub parts_said : Said → List Fragment
 parts_said s = fragments (least_offset s.reference) (oriented s.reference s.items)
+
+-- how many fragments the sequence has that a text is compiled to, wherever it is looked for; or the refusal of the text
+abbrev pub counted : {E : Type 0} → Alphabet E → ℕ → List ℕ → Result ℕ Fault
+counted a number t =
+    elim (compiled a number Anywhere t) [ Ok s ↦ Ok (length (parts_said s)) | Err f ↦ Err f ]
 
 -- break, lead, anchor length and the shift of an index
 abbrev pub numbers : Reference → ℕ → Fragment → ℕ × ℕ × ℕ × ℕ

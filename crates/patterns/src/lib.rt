@@ -7,5 +7,5 @@ mod reference;
 pub mod theorems;
 
 pub use direction::Direction;
-pub use pattern_text::{PatternText, TooLong};
+pub use pattern_text::{MOST_CHARACTERS, PatternText, TooLong};
 pub use reference::Reference;

@@ -3,8 +3,8 @@ ghost use Rattle.std.specs.Prelude.{◌≡◌, ◌<◌, ◌≤◌, length, Match
 
 use thiserror::Error;
 
-// A pattern text has at most this many characters.
-const MOST_CHARACTERS: usize = 200;
+/// A pattern text has at most this many characters.
+pub const MOST_CHARACTERS: usize = 200;
 
 /// The text of a pattern: at most 200 characters.
 #[derive(Clone, Copy)]

@@ -1,6 +1,6 @@
 use Rattle.std.proofs.Common.{ℕ, ◌+◌, ◌++◌, [], ◌∷◌, length, drop, sym, ap, ◌∙◌, arith, append_assoc, length-append}
-use Rattle.arrayvec.specs.ArrayVec.{ArrayVec}
 use Rattle.std.proofs.lemmas.List.{drop_all, append-nil}
+use Rattle.engine.specs.AnchorCodes.{Cells}
 use Rattle.engine.specs.Compiling.{part_codes}
 use Rattle.engine.specs.declared.pattern.Part.TheVariants as part
 use Rattle.engine.specs.declared.pattern.PlacedPart.{PlacedPart}
@@ -19,7 +19,7 @@ push-requires c =
     let on = ap length (codes_on ps i c.in-Literal.code first c.loop-placed-test.true c.in-Literal.is) in
     let all = ap length c.loop-placed.invariant in
     let long = length-append c.loop-placed.codes.items (part_codes (drop i ps)) in
-    (omega arith, omega arith)
+    omega arith
 
 pub loop-placed-preserved : goal.loop-placed-preserved
 loop-placed-preserved c =
@@ -29,12 +29,12 @@ loop-placed-preserved c =
     let so_far = c.loop-placed.codes.items in
     elim c.match-placed.branch [
       | in-Literal w ↦
-          ap (λ cs. cs ++ part_codes (drop (i + 1) ps)) (ap (λ (v : ArrayVec ℕ). v.items) w.codes-is ∙ w.push.ensures.items)
+          ap (λ cs. cs ++ part_codes (drop (i + 1) ps)) (ap (λ (v : Cells). v.items) w.codes-is ∙ w.push.ensures.items)
           ∙ append_assoc so_far (w.in-Literal.code ∷ []) (part_codes (drop (i + 1) ps))
           ∙ ap (λ cs. so_far ++ cs) (sym (codes_on ps i w.in-Literal.code first inside w.in-Literal.is))
           ∙ c.loop-placed.invariant
       | in_default w ↦
-          ap (λ cs. cs ++ part_codes (drop (i + 1) ps)) (ap (λ (v : ArrayVec ℕ). v.items) w.codes-is)
+          ap (λ cs. cs ++ part_codes (drop (i + 1) ps)) (ap (λ (v : Cells). v.items) w.codes-is)
           ∙ ap (λ cs. so_far ++ cs) (sym (codes_past ps i first inside w.in_default.not-Literal))
           ∙ c.loop-placed.invariant
     ]

@@ -3,6 +3,7 @@ use Rattle.patterns.specs.Grammar.{start}
 use Rattle.lexer.specs.Tokens.{lexed, lexeme_in, position_in, written}
 use Rattle.lexer.proofs.Meanings.{prepended, token_means, end_follows, stop_follows}
 use Rattle.engine.specs.Reading.{held, Read}
+use Rattle.engine.specs.Stored.{items}
 use Rattle.engine.proofs.Reading.{ReadSoFar, read_none, token_inside, room, read_more}
 use Rattle.engine.proofs.reader.read.Goals as goal
 
@@ -11,10 +12,11 @@ loop-token-init g c =
     let a = g.K.Kind.alphabet in
     let law = g.met.K.Kind.lawful in
     let t = c.args.text.characters.now in
-    let none = read_none a law t c.new-pattern.result c.new-pattern.ensures.codes c.new-pattern.ensures.runs c.new-pattern.ensures.items in (
+    let empty = c.args.pattern.now in
+    let none = read_none a law t empty c.requires.codes c.requires.runs (ap (items empty.codes.items empty.runs.items) c.requires.parts) in (
       c.new-lexer.ensures.text,
-      subst (λ p. ReadSoFar a law t c.new-pattern.result p c.new-lexer.result.at.place) (ap position_in (sym c.new-lexer.ensures.position))
-          (subst (ReadSoFar a law t c.new-pattern.result start) (sym c.new-lexer.ensures.place) none),
+      subst (λ p. ReadSoFar a law t empty p c.new-lexer.result.at.place) (ap position_in (sym c.new-lexer.ensures.position))
+          (subst (ReadSoFar a law t empty start) (sym c.new-lexer.ensures.place) none),
     )
 
 pub push_token-requires : goal.push_token-requires

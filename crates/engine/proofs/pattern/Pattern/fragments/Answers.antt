@@ -22,7 +22,7 @@ loop-start-init c =
     let few = few_fragments c.args.lo (held c.args.self.now) c.requires.within in
     let items = held c.args.self.now in
     let gap : cut_from c.from-break_before.result [] [] items ≡ fragments c.args.lo items = ap (λ n. cut_from n [] [] items) c.from-break_before.ensures in
-    let none = c.new-fragments.ensures in (
+    let none = c.requires.empty in (
       omega arith,
       λ fs rest. rw none (subst (Hold c.args.reference items fs) gap rest),
       omega (arith, ap length none, ap length gap),

@@ -1,5 +1,5 @@
 use Rattle.std.proofs.Common.{◌≡◌, take}
-use Rattle.engine.proofs.mirror.reversed.Given as goal
+use Rattle.engine.proofs.mirror.reverse_all.Given as goal
 
 -- the copy has what was passed
 abbrev pub invariant-loop-x : goal.invariant-loop-x

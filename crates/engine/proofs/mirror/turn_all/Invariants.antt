@@ -1,5 +1,5 @@
 use Rattle.std.proofs.Common.{◌≡◌, map, take}
-use Rattle.engine.proofs.mirror.all_turned.Given as goal
+use Rattle.engine.proofs.mirror.turn_all.Given as goal
 
 -- what was passed is turned
 abbrev pub invariant-loop-x : goal.invariant-loop-x

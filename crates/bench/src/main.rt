@@ -1,7 +1,7 @@
 //! Measures the search: how long a file's bytes are searched for a pattern text.
 #![tactic(auto)]
 
-use engine::{PatternText, Reference, Sequence};
+use engine::{MOST_CHARACTERS, PatternText, Reference, Sequence, TooLong};
 use kinds::{Backward, Byte, Bytes, Order};
 use std::io::ErrorKind;
 use std::process::ExitCode;
@@ -27,15 +27,24 @@ RUNS searches (5 where none are given) and the speed.
 With --identify, enters the records of RECORDS, identifies FILE without a label, and prints the
 status, the number of hits, and the least time of RUNS times a thousand questions, for one question.";
 
+// A word as a pattern text. One of few enough characters may have too many bytes: then one of its
+// first bytes is of no text, and it is refused there.
+fn text_of(word: &str) -> Result<PatternText<'_>, TooLong> {
+    let bytes = word.as_bytes();
+    let first = bytes.get(..MOST_CHARACTERS);
+    let first = first.filter(|_| word.chars().count() <= MOST_CHARACTERS);
+    PatternText::try_from(first.unwrap_or(bytes))
+}
+
 // The measure of a request's search, or the refusal of its text, as a line.
 fn answer(rt: &HostRuntime, request: Request) -> Result<String, Complaint> {
     let alloc = rt.alloc();
-    let text = PatternText::try_from(request.text.as_bytes())?;
+    let file = fs::read(rt, request.file).map_err(Complaint::Unreadable)?;
+    let text = text_of(request.text)?;
     let sequence = match Sequence::<Byte>::compile(1, Reference::Anywhere, text) {
         Ok(sequence) => sequence,
         Err(fault) => return Ok(fault.line().to_string(alloc)?),
     };
-    let file = fs::read(rt, request.file).map_err(Complaint::Unreadable)?;
     let bytes = Bytes::new(file.as_slice());
     let measure = match request.order {
         Order::Forward => measured(rt, &sequence, &bytes, request.runs)?,

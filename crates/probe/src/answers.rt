@@ -4,6 +4,7 @@ use crate::elements::elements_of;
 use crate::pattern::{Words, hit, read, shown};
 use kinds::{Backward, Byte, Held, Kind, Mark, Marks, Order, Reading, copy_elements};
 use std::alloc::{AllocError, Global};
+use std::fmt::Write;
 
 // A command over elements of some kind, with its words.
 #[derive(Clone, Copy)]
@@ -82,11 +83,15 @@ fn codes<K: Kind>(alloc: Global, order: Order, word: &str) -> Result<String, Com
 fn written_codes<R: Reading>(alloc: Global, reading: &R) -> Result<String, AllocError> {
     let mut elements = Vec::new(alloc);
     copy_elements(reading, &mut elements)?;
-    let codes: Vec<String> = elements
-        .iter()
-        .map(|x| x.code().to_string(alloc))
-        .try_collect(alloc)?;
-    or_dash(codes.join(alloc, " ")?)
+    // No `join`, which would hold a string for each code.
+    let mut codes = String::new(alloc);
+    for x in elements {
+        if !codes.is_empty() {
+            codes.push(' ')?;
+        }
+        write!(codes, "{}", x.code())?;
+    }
+    or_dash(codes)
 }
 
 // The pairs of the axle marks over bytes, run together, `-` for none.
@@ -94,10 +99,13 @@ fn marks(alloc: Global, word: &str) -> Result<String, Complaint> {
     let bytes: Vec<Byte> = elements_of(alloc, word)?;
     let mut marks = Vec::new(alloc);
     copy_elements(&Marks::new(Held::new(bytes.as_slice())), &mut marks)?;
-    let pairs: String = marks
-        .iter()
-        .map(|mark| mark.to_string(alloc))
-        .try_collect(alloc)?;
+    let mut pairs = String::new(alloc);
+    // No `{mark}`, which takes half as long again.
+    for mark in marks {
+        let (letter, digit) = mark.pair();
+        pairs.push(char::from(letter))?;
+        pairs.push(char::from(digit))?;
+    }
     Ok(or_dash(pairs)?)
 }
 

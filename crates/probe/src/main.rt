@@ -17,7 +17,7 @@ use complaint::Complaint;
 const USAGE: &str = "\
 usage: probe [--help]
 
-Answers each line of standard input with one line.
+Answers each line of standard input with one line. Other arguments are passed over.
 
   codes KIND ELEMENTS                               codes of the elements
   backward KIND ELEMENTS                            codes from the last element to the first
@@ -72,11 +72,11 @@ fn answer_lines(rt: &HostRuntime) -> Result<(), Failure> {
     Ok(())
 }
 
-// Does what the arguments ask for.
+// Does what the arguments ask for: any but `--help` alone are passed over.
 fn run(rt: &HostRuntime) -> Result<(), Failure> {
-    match arguments(rt)? {
-        Asked::Work => answer_lines(rt),
-        Asked::Usage => rt.println(USAGE).map_err(Failure::Output),
+    match arguments(rt) {
+        Ok(Asked::Usage) => rt.println(USAGE).map_err(Failure::Output),
+        Ok(Asked::Work) | Err(_) => answer_lines(rt),
     }
 }
 

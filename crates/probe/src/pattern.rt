@@ -1,7 +1,7 @@
 //! The commands on pattern texts.
 use crate::complaint::Complaint;
 use crate::elements::elements_of;
-use engine::{PatternText, Reference, Sequence};
+use engine::{MOST_CHARACTERS, PatternText, Reference, Sequence, TooLong};
 use kinds::{Byte, Held, Kind};
 use std::alloc::Global;
 use std::str::FromStr;
@@ -68,15 +68,18 @@ impl Words<'_> {
     }
 }
 
-// A text as the first sequence, compiled; its refusal is an error.
-fn compiled<K: Kind>(reference: Reference, text: &str) -> Result<Sequence<K>, Complaint> {
-    let text = PatternText::try_from(text.as_bytes())?;
-    Ok(Sequence::compile(1, reference, text)?)
+// A word as a pattern text. One of few enough characters may have too many bytes: then one of its
+// first bytes is of no text, and it is refused there.
+fn text_of(word: &str) -> Result<PatternText<'_>, TooLong> {
+    let bytes = word.as_bytes();
+    let first = bytes.get(..MOST_CHARACTERS);
+    let first = first.filter(|_| word.chars().count() <= MOST_CHARACTERS);
+    PatternText::try_from(first.unwrap_or(bytes))
 }
 
 /// The number of a text's fragments.
 pub(crate) fn read<K: Kind>(alloc: Global, text: &str) -> Result<String, Complaint> {
-    let count = compiled::<K>(Reference::Anywhere, text)?.fragment_count();
+    let count = Sequence::<K>::count_fragments(1, text_of(text)?)?;
     Ok(format!(in alloc; "ok {count}")?)
 }
 
@@ -90,8 +93,13 @@ pub(crate) fn shown<K: Kind>(
     let reference = words.reference()?;
     let fragment = number_of(fragment)?;
     let index = index_of(index)?;
-    let sequence = compiled::<K>(reference, words.text)?;
-    match sequence.numbers(usize::from(fragment), index) {
+    let text = text_of(words.text)?;
+    // Matched where it stands: a compiled sequence takes some kilobytes to copy.
+    let numbers = match &Sequence::<K>::compile(1, reference, text) {
+        Ok(sequence) => sequence.numbers(usize::from(fragment), index),
+        Err(fault) => return Err(Complaint::Refused(*fault)),
+    };
+    match numbers {
         Some((gap, lead, len, shift)) => Ok(format!(in alloc; "{gap} {lead} {len} {shift}")?),
         None => Ok(String::from_str(alloc, "none")?),
     }
@@ -105,8 +113,11 @@ pub(crate) fn hit<K: Kind>(
 ) -> Result<String, Complaint> {
     let reference = words.reference()?;
     let elements: Vec<K> = elements_of(alloc, elements)?;
-    let sequence = compiled::<K>(reference, words.text)?;
-    let hits = sequence.hits(&Held::new(elements.as_slice()));
+    let text = text_of(words.text)?;
+    let hits = match &Sequence::<K>::compile(1, reference, text) {
+        Ok(sequence) => sequence.hits(&Held::new(elements.as_slice())),
+        Err(fault) => return Err(Complaint::Refused(*fault)),
+    };
     Ok(String::from_str(alloc, if hits { "hit" } else { "miss" })?)
 }
 

@@ -12,23 +12,29 @@ pub(crate) struct AnchorCodes {
     len: u8,
 }
 
+// The places behind the codes hold 0, so the codes say all.
 impl Model for AnchorCodes {
-    ghost use Rattle.std.specs.Prelude.{◌≡◌, ◌≤◌, ◌++◌, length, take, drop};
-    ghost use Rattle.std.proofs.Common.{arith, take-append-drop, length-take-le};
-    ghost use Rattle.engine.specs.AnchorCodes.{Cells};
+    ghost use Rattle.std.specs.Prelude.{◌≡◌, ◌-◌, ◌≤◌, ◌++◌, length, take, drop, replicate};
+    ghost use Rattle.std.proofs.Common.{sym, ap, ◌∙◌, arith, take-append-drop, length-take-le};
+    ghost use Rattle.engine.specs.AnchorCodes.{Cells, spare};
 
     ghost Value = { Cells };
 
-    ghost view = { λ c. record { items = take c.len c.cells; spare = drop c.len c.cells } };
+    ghost view = { λ c. record { items = take c.len c.cells } };
 
-    ghost invariant = { λ c. (c.len ≤ 100) × (length c.cells ≡ 100) };
+    ghost invariant = { λ c. (c.len ≤ 100) × (length c.cells ≡ 100)
+        × (drop c.len c.cells ≡ replicate (100 - c.len) 0) };
 
-    ghost inverse = { λ c. record { cells = c.items ++ c.spare; len = length c.items } };
+    ghost inverse = { λ c. record { cells = c.items ++ spare c; len = length c.items } };
 
-    ghost inverse_ok = { λ c h i. record {
-      cells = take-append-drop c.len c.cells i;
-      len = length-take-le c.len c.cells (omega (arith, h.0, h.1)) i;
-    } };
+    ghost inverse_ok = { λ c h i.
+        let codes = take c.len c.cells in
+        let long = length-take-le c.len c.cells (omega (arith, h.0, h.1)) in
+        let behind = ap (λ n. replicate (100 - n) 0) long ∙ sym h.2 in
+        record {
+          cells = (ap (λ zeros. codes ++ zeros) behind ∙ take-append-drop c.len c.cells) i;
+          len = long i;
+        } };
 }
 
 impl AnchorCodes {

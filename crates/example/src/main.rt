@@ -18,7 +18,7 @@ fn main(rt: HostRuntime) -> Result<()> {
 
 #[cfg(test)]
 mod tests {
-    use engine::{PatternText, Reference, Sequence, Table};
+    use engine::{Fragment, PatternText, Reference, Sequence, Table};
     use kinds::{Byte, Bytes};
     use std::test::Fail;
 
@@ -39,6 +39,17 @@ mod tests {
         table.clear(2);
         placed.clear(&mut table);
         assert_eq!(rt; table.free_count(), 96);
+        Ok(())
+    }
+
+    // The default fragment has no anchor, and its break, its lead and its last shift are 0.
+    #[test]
+    fn default_fragment(rt: HostRuntime) -> Result<(), Fail> {
+        let fragment = Fragment::default();
+        assert_eq!(rt; fragment.anchor_len(), 0);
+        assert_eq!(rt; fragment.break_before(), 0);
+        assert_eq!(rt; fragment.lead(), 0);
+        assert_eq!(rt; fragment.shift(255), 0);
         Ok(())
     }
 }
